@@ -1,0 +1,7 @@
+//! Kinds of load: what a booking takes of a channel or a crew pool, told by counts alone.
+
+pub mod airtime;
+pub mod crews;
+pub mod kind;
+pub mod meaning;
+pub mod pair;
