@@ -1,0 +1,3 @@
+pub mod References
+pub mod Refusals
+pub mod Windows

@@ -1,0 +1,3 @@
+pub mod reference;
+pub mod refusal;
+pub mod window;
