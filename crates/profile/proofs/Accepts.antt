@@ -26,10 +26,7 @@ use Rattle.loads.proofs.Places.{to-from-bytes, from-bytes-below}
 use Rattle.profile.specs.Rows.{Row, Profile, row-fault, rows-fault, or-fault, lawful-horizon, profile-fault, unless}
 use Rattle.profile.specs.Wire.{row-bytes, row-size, header-bytes, profile-bytes, Header, read-header, with-load, row-at, checked, next-row, prepend, then-rows, read-rows, as-profile, then-body, read-profile}
 use Rattle.profile.specs.Laws.{Writable, Fits-bytes, Accepted, Accepts-writings}
-
--- no value is two constructors
-ok-not-err : {X Y : Type 0} {x : X} {y : Y} → _≡_ {A = Result X Y} (Err y) (Ok x) → ⊥
-ok-not-err e = let z : _≡_ {A = ℕ} 0 1 = cc in omega arith
+use Rattle.profile.proofs.Steps.{ok-not-err, prepend-ok, rows-many}
 
 -- a test that led to Ok was true
 pub cond-ok : {X Y : Type 0} (b : Bool) (r : Result X Y) (e : Y) (x : X) → cond b r (Err e) ≡ Ok x → (b ≡ true) × (r ≡ Ok x)
@@ -89,18 +86,17 @@ module _ (f : Format) (lawful : Lawful f) where
             writable = record { offset = o .1; minutes = m .1; load = i .load };
           })
 
-  pub record Rows-read (h : ℕ) (before : Option Row) (n : ℕ) (bs : List ℕ) (rs : List Row) : Type 0 where
+  pub record Rows-read (h : ℕ) (before : Option Row) (bs : List ℕ) (rs : List Row) : Type 0 where
     pub written : bs ≡ joined (row-bytes f) rs
     pub writable : All (Writable f) rs
     pub faultless : rows-fault h before rs ≡ None
-    pub so-many : length rs ≡ n
 
   -- one row more
-  row-more : (h n : ℕ) (before : Option Row) (bs : List ℕ) (r : Row) (rs : List Row) → Bytes bs → next-row f h before bs ≡ Ok r
-      → Rows-read h (Some r) n (drop (row-size f) bs) rs → Rows-read h before (suc n) bs (r ∷ rs)
-  row-more h n before bs r rs b e rest = from-row (row-at f bs) refl e
+  row-more : (h : ℕ) (before : Option Row) (bs : List ℕ) (r : Row) (rs : List Row) → Bytes bs → next-row f h before bs ≡ Ok r
+      → Rows-read h (Some r) (drop (row-size f) bs) rs → Rows-read h before bs (r ∷ rs)
+  row-more h before bs r rs b e rest = from-row (row-at f bs) refl e
     where
-      from-row : (x : Result Row Refusal) → row-at f bs ≡ x → checked h before x ≡ Ok r → Rows-read h before (suc n) bs (r ∷ rs)
+      from-row : (x : Result Row Refusal) → row-at f bs ≡ x → checked h before x ≡ Ok r → Rows-read h before bs (r ∷ rs)
       from-row (Err g) p q = absurd (ok-not-err q)
       from-row (Ok s) p q =
           let u = unless-ok (row-fault h before s) s r q in
@@ -110,25 +106,20 @@ module _ (f : Format) (lawful : Lawful f) where
             written = sym (take-append-drop (row-size f) bs) ∙ ap₂ _++_ (row .written) (rest .written);
             writable = (row .writable, rest .writable);
             faultless = ap (λ o. or-fault o (rows-fault h (Some r) rs)) free ∙ rest .faultless;
-            so-many = ap suc (rest .so-many);
           }
 
-  prepend-ok : (r : Row) (x : Result (List Row) Refusal) (rs : List Row) → prepend r x ≡ Ok rs → (qs : List Row) × (x ≡ Ok qs) × (r ∷ qs ≡ rs)
-  prepend-ok r (Err g) rs h = absurd (ok-not-err h)
-  prepend-ok r (Ok qs) rs h = (qs, refl, (cc))
-
-  pub rows-accepted : (h n : ℕ) (before : Option Row) (bs : List ℕ) (rs : List Row) → Bytes bs → read-rows f h before n bs ≡ Ok rs → Rows-read h before n bs rs
-  rows-accepted h zero before [] rs b e = let is : [] ≡ rs = (cc) in subst (Rows-read h before 0 []) is (record { written = refl; writable = tt; faultless = refl; so-many = refl })
+  pub rows-accepted : (h n : ℕ) (before : Option Row) (bs : List ℕ) (rs : List Row) → Bytes bs → read-rows f h before n bs ≡ Ok rs → Rows-read h before bs rs
+  rows-accepted h zero before [] rs b e = let is : [] ≡ rs = (cc) in subst (Rows-read h before []) is (record { written = refl; writable = tt; faultless = refl })
   rows-accepted h zero before (x ∷ bs) rs b e = absurd (ok-not-err e)
   rows-accepted h (suc n) before bs rs b e = first (next-row f h before bs) refl e (λ r qs q. rows-accepted h n (Some r) (drop (row-size f) bs) qs (all-drop (λ x. x < 256) (row-size f) bs b) q)
     where
       first : (x : Result Row Refusal) → next-row f h before bs ≡ x → then-rows x (λ r. read-rows f h (Some r) n (drop (row-size f) bs)) ≡ Ok rs
-          → ((r : Row) (qs : List Row) → read-rows f h (Some r) n (drop (row-size f) bs) ≡ Ok qs → Rows-read h (Some r) n (drop (row-size f) bs) qs)
-          → Rows-read h before (suc n) bs rs
+          → ((r : Row) (qs : List Row) → read-rows f h (Some r) n (drop (row-size f) bs) ≡ Ok qs → Rows-read h (Some r) (drop (row-size f) bs) qs)
+          → Rows-read h before bs rs
       first (Err g) p q next = absurd (ok-not-err q)
       first (Ok r) p q next =
           let k = prepend-ok r (read-rows f h (Some r) n (drop (row-size f) bs)) rs q in
-          subst (Rows-read h before (suc n) bs) (k .2) (row-more h n before bs r (k .0) b p (next r (k .0) (k .1)))
+          subst (Rows-read h before bs) (k .2) (row-more h before bs r (k .0) b p (next r (k .0) (k .1)))
 
   pub accepts-writings : Accepts-writings f
   accepts-writings bs p b e = with-header (read-header f bs) refl e
@@ -154,7 +145,7 @@ module _ (f : Format) (lawful : Lawful f) where
           let wh = word-bytes 1 bs (omega arith) b in
           let wn = word-bytes 5 bs (omega arith) b in
           let horizon : from-bytes (take 4 (drop 1 bs)) ≡ h .horizon = ap (λ k. k .horizon) hd in
-          let count : from-bytes (take 4 (drop 5 bs)) ≡ length rs = ap (λ k. k .count) hd ∙ sym (rows .so-many) in
+          let count : from-bytes (take 4 (drop 5 bs)) ≡ length rs = ap (λ k. k .count) hd ∙ sym (rows-many f (h .horizon) (h .count) None (drop 9 bs) rs r) in
           subst (Accepted f bs) is (record {
             written = cut-header long
                 ∙ ap₂ (λ m ys. m ∷ ys) (eqb-true (getD bs 0 0) (f .mark) (q2 .0))

@@ -1,3 +1,4 @@
-pub mod Rows
-pub mod Wire
 pub mod Laws
+pub mod Rows
+pub mod Views
+pub mod Wire

@@ -130,3 +130,8 @@ then-body f body (Err e) = Err e
 -- the profile that the bytes are, for one kind, or why they are none
 abbrev pub read-profile : Format → List ℕ → Result Profile Refusal
 read-profile f bs = then-body f (drop 9 bs) (read-header f bs)
+
+-- how long a profile is told to be
+abbrev pub header-read : Result Profile Refusal → Result Header Refusal
+header-read (Ok p) = Ok (record { horizon = p .horizon; count = length (p .rows) })
+header-read (Err e) = Err e

@@ -43,9 +43,7 @@ impl Reference {
         ensures told { λ r. ⌜ r ≡ ref-order (ref-of self) (ref-of other) ⌝ }
         ensures lawful { λ _. ⌜ Ref-order-law ⌝ }
     {
-        let by_institute = self.institute.cmp(&other.institute);
-        let by_serial = self.serial.cmp(&other.serial);
-        by_institute.then(by_serial)
+        self.parts().cmp(&other.parts())
     }
 
     /// Whether it stands strictly before the other.
@@ -63,10 +61,11 @@ impl Reference {
         self.parts() == other.parts()
     }
 
-    // What tells one reference from another: equal parts mean equal references.
+    // What tells one reference from another, in the order in which they count.
     fn parts(self) -> (u16, u32)
         ensures told { λ r. ⌜ (r .0 ≡ self .institute) × (r .1 ≡ self .serial) ⌝ }
         ensures lawful { λ _. ⌜ Reference-law ⌝ }
+        ensures ordered { λ _. ⌜ Ref-order-law ⌝ }
     {
         (self.institute, self.serial)
     }
