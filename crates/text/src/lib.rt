@@ -1,0 +1,4 @@
+pub mod decimal;
+pub mod distinct;
+pub mod hex;
+pub mod lines;
