@@ -28,7 +28,7 @@ pub record Good (h : ℕ) (before : Option Row) (r : Row) : Type 0 where
   pub not-empty : empty (r .load) ≡ false
   pub other : goes-on before r ≡ false
 
-none-not-some : {e : Refusal} → _≡_ {A = Option Refusal} (Some e) None → ⊥
+pub none-not-some : {e : Refusal} → _≡_ {A = Option Refusal} (Some e) None → ⊥
 none-not-some e = let z : _≡_ {A = ℕ} 0 1 = cc in omega arith
 
 free : (b : Bool) (e : Refusal) (o : Option Refusal) → cond b (Some e) o ≡ None → (b ≡ false) × (o ≡ None)
@@ -185,7 +185,7 @@ module _ (f : Format) where
       (same-rows h (Some r) rs qs (c .1) after
       (λ m a b. sym (past-row r rs m a) ∙ (same m (omega arith) b ∙ past-row q qs m (omega arith))))
 
-  rows-free : (p : Profile) → profile-fault p ≡ None → rows-fault (p .horizon) None (p .rows) ≡ None
+  pub rows-free : (p : Profile) → profile-fault p ≡ None → rows-fault (p .horizon) None (p .rows) ≡ None
   rows-free p e = elim (cases-bool (lawful-horizon (p .horizon))) [
     | inl k ↦ sym (cond-true _ _ _ k) ∙ e
     | inr k ↦ absurd (none-not-some (sym (cond-false _ (rows-fault (p .horizon) None (p .rows)) (Some ProfileHorizon) k) ∙ e))

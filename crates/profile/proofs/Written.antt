@@ -33,6 +33,9 @@ as-unless : (o : Option Refusal) (h : ℕ) (rs : List Row) → as-profile h (unl
 as-unless None h rs = refl
 as-unless (Some e) h rs = refl
 
+pub length-header : (f : Format) (h n : ℕ) → length (header-bytes f h n) ≡ 9
+length-header f h n = ap suc (length-append (to-bytes 4 h) (to-bytes 4 n) ∙ ap₂ _+_ (length-to-bytes 4 h) (length-to-bytes 4 n))
+
 module _ (f : Format) (lawful : Lawful f) where
   pub length-row : (r : Row) → Counted f (r .load) → length (row-bytes f r) ≡ row-size f
   length-row r w =
@@ -111,19 +114,16 @@ module _ (f : Format) (lawful : Lawful f) where
       ∙ (cond-true _ _ _ (eq-eqb (f .mark) (f .mark) refl)
       ∙ ap₂ (λ h n. cond (lawful-horizon h) (Ok (record { horizon = h; count = n })) (Err ProfileHorizon)) first second)
 
-  length-header : (h n : ℕ) → length (header-bytes f h n) ≡ 9
-  length-header h n = ap suc (length-append (to-bytes 4 h) (to-bytes 4 n) ∙ ap₂ _+_ (length-to-bytes 4 h) (length-to-bytes 4 n))
-
   pub length-profile : (p : Profile) → All (λ r. Counted f (r .load)) (p .rows) → length (profile-bytes f p) ≡ profile-size f (length (p .rows))
   length-profile p w =
       length-append (header-bytes f (p .horizon) (length (p .rows))) (joined (row-bytes f) (p .rows))
-      ∙ ap₂ _+_ (length-header (p .horizon) (length (p .rows))) (length-rows (p .rows) w)
+      ∙ ap₂ _+_ (length-header f (p .horizon) (length (p .rows))) (length-rows (p .rows) w)
 
   pub reads-back : Reads-back f
   reads-back p w =
       let body = joined (row-bytes f) (p .rows) in
       let head = header-bytes f (p .horizon) (length (p .rows)) in
-      ap₂ (λ bs h. then-body f bs h) (drop-at head body 9 (length-header (p .horizon) (length (p .rows)))) (header-reads p body w)
+      ap₂ (λ bs h. then-body f bs h) (drop-at head body 9 (length-header f (p .horizon) (length (p .rows)))) (header-reads p body w)
       ∙ elim (cases-bool (lawful-horizon (p .horizon))) [
         | inl e ↦ ap (then-body f body) (cond-true _ _ _ e)
             ∙ (ap (as-profile (p .horizon)) (rows-read (p .horizon) None (p .rows) (w .rows))

@@ -4,3 +4,4 @@ mod check;
 pub mod put;
 pub mod read;
 pub mod row;
+pub mod write;
