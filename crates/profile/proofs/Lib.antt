@@ -3,6 +3,7 @@ pub mod Once
 pub mod Parsed
 pub mod Putting
 pub mod Rowwise
+pub mod Runs
 pub mod Steps
 pub mod Wholes
 pub mod Written

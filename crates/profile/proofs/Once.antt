@@ -87,12 +87,12 @@ module _ (f : Format) where
       before-row r rs m (omega arith) ∙ before-all h (Some r) rs (c .1) m (omega arith)
 
   -- nor before the first one's offset
-  early : (h : ℕ) (before : Option Row) (r : Row) (rs : List Row) → rows-fault h before (r ∷ rs) ≡ None → (m : ℕ) → m < r .offset → load-at f (r ∷ rs) m ≡ zeros f
+  pub early : (h : ℕ) (before : Option Row) (r : Row) (rs : List Row) → rows-fault h before (r ∷ rs) ≡ None → (m : ℕ) → m < r .offset → load-at f (r ∷ rs) m ≡ zeros f
   early h before r rs e m l =
       let c = cut h before r rs e in
       before-row r rs m l ∙ before-all h (Some r) rs (c .1) m (omega arith)
 
-  no-load : (x : List ℕ) → x ≡ zeros f → empty x ≡ false → ⊥
+  pub no-load : (x : List ℕ) → x ≡ zeros f → empty x ≡ false → ⊥
   no-load x e h = both-ways (empty x) h (ap empty e ∙ zeros-empty (length (f .ceilings)))
 
   -- right after a row there is another load

@@ -5,7 +5,7 @@ ghost use Rattle.profile.specs.Views.{header-of, Tells, Collects};
 ghost use mathlib.Core.List.{List};
 ghost use Rattle.std.specs.declared.option.Option.the-variants.{None};
 ghost use Rattle.std.specs.declared.result.Result.the-variants.{Ok};
-ghost use Rattle.profile.specs.Laws.{Accepts-writings, One-writing};
+ghost use Rattle.profile.specs.Laws.{Accepts-writings, Rows-are-runs, One-writing};
 ghost use Rattle.profile.specs.Wire.{read-rows, read-profile, header-read};
 ghost use Rattle.profile.specs.Rows.{Row as PlainRow};
 use crate::check::after_row;
@@ -40,7 +40,11 @@ pub fn check<K: Kind>(bytes: &[u8]) -> Result<Header, Refusal>
 }
 
 // The rows of a body that was checked; the refusals of its rows cannot come then.
-fn read_rows<K: Kind>(heap: Global, header: Header, body: &[u8]) -> Result<Vec<Row<K::Load>>, ReadError>
+fn read_rows<K: Kind>(
+    heap: Global,
+    header: Header,
+    body: &[u8],
+) -> Result<Vec<Row<K::Load>>, ReadError>
     ensures { λ r. ⌜ ((rs : List PlainRow) → read-rows (K·Kind .format) (header .horizon) None (header .count) (now (body .entry)) ≡ Ok rs → Collects (K·Kind .counts) rs r) ⌝ }
 {
     let mut rows = Vec::new(heap);
@@ -60,6 +64,7 @@ fn read_rows<K: Kind>(heap: Global, header: Header, body: &[u8]) -> Result<Vec<R
 pub fn read<K: Kind>(heap: Global, bytes: &[u8]) -> Result<Profile<K::Load>, ReadError>
     ensures tells { λ r. ⌜ Tells (K·Kind .counts) (read-profile (K·Kind .format) (now (bytes .entry))) r ⌝ }
     ensures accepts_writings { λ _. ⌜ Accepts-writings (K·Kind .format) ⌝ }
+    ensures rows_are_runs { λ _. ⌜ Rows-are-runs (K·Kind .format) ⌝ }
     ensures one_writing { λ _. ⌜ One-writing (K·Kind .format) ⌝ }
 {
     let header = check::<K>(bytes)?;

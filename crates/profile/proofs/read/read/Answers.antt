@@ -14,6 +14,7 @@ use Rattle.profile.specs.Views.{header-of, Tells, Collects}
 use Rattle.profile.specs.Wire.{read-rows}
 use Rattle.profile.proofs.Accepts.{accepts-writings}
 use Rattle.profile.proofs.Once.{one-writing}
+use Rattle.profile.proofs.Runs.{rows-are-runs}
 use Rattle.profile.proofs.Steps.{header-refused, header-passed}
 use Rattle.profile.proofs.read.read.Needs as need
 
@@ -29,6 +30,7 @@ returns-in-Break-header g c =
     record {
       tells = rw (p .1, p .2) (header-refused _ _ (c .in-Break-header .ensures tt));
       accepts-writings = accepts-writings (g .K·Kind .format) (g .K·Kind·met .lawful);
+      rows-are-runs = rows-are-runs (g .K·Kind .format) (g .K·Kind·met .lawful);
       one-writing = one-writing (g .K·Kind .format) (g .K·Kind·met .lawful);
     }
 
@@ -43,6 +45,7 @@ returns-in-Break-rows g c =
     record {
       tells = rw (p .1, p .2) (kept-from (g .K·Kind .counts) _ h (q .rows) (c .in-Break-rows .field-0 .0) (q .is) rows);
       accepts-writings = accepts-writings f (g .K·Kind·met .lawful);
+      rows-are-runs = rows-are-runs (g .K·Kind .format) (g .K·Kind·met .lawful);
       one-writing = one-writing f (g .K·Kind·met .lawful);
     }
 
@@ -56,5 +59,6 @@ returns g c =
     record {
       tells = q .is ∙ ap (λ rs. Ok (record { horizon = h; rows = rs })) (sym rows);
       accepts-writings = accepts-writings f (g .K·Kind·met .lawful);
+      rows-are-runs = rows-are-runs (g .K·Kind .format) (g .K·Kind·met .lawful);
       one-writing = one-writing f (g .K·Kind·met .lawful);
     }

@@ -33,7 +33,7 @@ loop-row-again g c room =
     let i = c .loop-row .inv room in (
       omega (arith, place-some (c .in-Continue-at .at) (c .loop-row .at) (row-size f) (c .loop-row .buffer) (c .in-Continue-at .ensures tt .place), add-mul (c .loop-row .row-index) 1 (row-size f)),
       rows-put-more f (g .K·Kind·met .lawful) view (λ x. g .K·Kind·met .counted (x .load)) (c .args .rows .now) (c .args .start) (c .args .buffer .now) room
-      (c .loop-row .row-index) (c .loop-row .at) (c .row-item .result) (c .loop-row .buffer) (c .put-row .last .buffer) (c .loop-row-test .taken) (c .row-item .is) (i .0) (i .1) (c .in-Continue-at .ensures tt .after),
+          (c .loop-row .row-index) (c .loop-row .at) (c .row-item .result) (c .loop-row .buffer) (c .put-row .last .buffer) (c .loop-row-test .taken) (c .row-item .is) (i .0) (i .1) (c .in-Continue-at .ensures tt .after),
     )
 
 pub returns : need.returns
