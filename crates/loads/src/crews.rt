@@ -16,10 +16,10 @@ pub struct CrewsLoad {
 
 impl CrewsLoad {
     /// The crews whose bits are set.
-    pub fn of(word: u64) -> CrewsLoad
-        ensures { λ r. ⌜ r .word ≡ word ⌝ }
+    pub fn of(crews: u64) -> CrewsLoad
+        ensures { λ r. ⌜ r .word ≡ crews ⌝ }
     {
-        CrewsLoad { word }
+        CrewsLoad { word: crews }
     }
 
     /// The word with a bit for each crew.

@@ -1,0 +1,4 @@
+pub mod Drafts
+pub mod Lines
+pub mod Marks
+pub mod Pushes
