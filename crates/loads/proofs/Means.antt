@@ -20,7 +20,7 @@ use Rattle.loads.specs.Formats.{Format, Counted, Lawful}
 use Rattle.loads.specs.Meaning.{Meanings}
 use Rattle.loads.proofs.Places.{length-digits}
 
-decides-leb : (a b : ℕ) → Decides (leb a b) (a ≤ b)
+pub decides-leb : (a b : ℕ) → Decides (leb a b) (a ≤ b)
 decides-leb a b = (leb-true a b, le-leb a b)
 
 -- as many, and each at most the other's

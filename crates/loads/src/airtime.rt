@@ -9,6 +9,7 @@ ghost use Rattle.std.specs.declared.option.Option.the-variants.{Some, None};
 ghost use Rattle.loads.specs.Formats.{airtime-format};
 use crate::kind::Kind;
 use crate::kind::LoadFault;
+use crate::word::put_u32;
 
 pub struct Airtime;
 
@@ -96,11 +97,7 @@ pub impl Kind for Airtime as AirtimeKind {
     }
 
     fn put(load: AirtimeLoad, buffer: &mut [u8]) -> bool {
-        if buffer.len() < 4 {
-            return false;
-        }
-        buffer[0..4].copy_from_slice(&load.rate.to_be_bytes());
-        true
+        put_u32(load.rate, buffer)
     }
 
     fn read(bytes: &[u8]) -> Result<AirtimeLoad, LoadFault> {

@@ -5,3 +5,4 @@ pub mod crews;
 pub mod kind;
 pub mod meaning;
 pub mod pair;
+pub mod word;

@@ -9,7 +9,6 @@ use native.Mathlib.Nat.{mul-comm, add-mul, mul-le-mul-right, mul-le-mul, div-eq-
 use lib.Dec.{leb}
 use lib.ListN.{length, take, drop, getD, length-append, length-take, length-drop, length-map}
 use Rattle.std.specs.shelf.Lists.{All, joined}
-use Rattle.std.specs.Orderings.{Decides}
 use Rattle.std.specs.declared.option.Option.{Option}
 use Rattle.std.specs.declared.option.Option.the-variants.{Some, None}
 use Rattle.std.proofs.shelf.Bits.{le-div, div-add-mod'}
@@ -18,6 +17,7 @@ use Rattle.std.proofs.shelf.Tests.{cases-lt, leb-true, le-leb, leb-false, lt-le
 use Rattle.std.proofs.shelf.Ways.{same-from-decides}
 use Rattle.terms.specs.declared.refusal.Refusal.{Refusal}
 use Rattle.loads.specs.Formats.{Format, Counted, Lawful}
+use Rattle.loads.proofs.Means.{decides-leb}
 use Rattle.profile.specs.Rows.{Row, end-before, end-of, row-fault, or-fault, rows-fault}
 use Rattle.profile.specs.Wire.{row-bytes, row-size, profile-size, told, put-at, place-after}
 use Rattle.profile.proofs.Once.{cut}
@@ -47,9 +47,6 @@ rows-few h before (r ∷ rs) e l =
 -- a size that stops at the largest number
 abbrev pub row-told : ℕ → ℕ
 row-told size = min (min size (2 ^ 64 - 1) + 8) (2 ^ 64 - 1)
-
-decides-leb : (a b : ℕ) → Decides (leb a b) (a ≤ b)
-decides-leb a b = (leb-true a b, le-leb a b)
 
 -- so many rows fit what is left after the header, told by a quotient
 pub room-is : (size n room : ℕ) → 9 ≤ room → room < 2 ^ 64 → leb n ((room - 9) / row-told size) ≡ leb (9 + n * (8 + size)) room

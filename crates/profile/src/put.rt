@@ -2,24 +2,13 @@
 ghost use mathlib.Core.Path.{_≡_};
 ghost use lib.Dec.{leb};
 ghost use lib.ListN.{length};
-ghost use Rattle.loads.specs.Digits.{to-bytes};
 ghost use Rattle.loads.specs.Formats.{put-front};
 ghost use Rattle.profile.specs.Views.{row-of};
 ghost use Rattle.profile.specs.Wire.{row-bytes, row-size, header-bytes, put-at, place-after};
 use crate::row::Header;
 use crate::row::Row;
 use loads::kind::Kind;
-
-fn put_number(n: u32, buffer: &mut [u8]) -> bool
-    ensures fits { λ r. ⌜ r ≡ leb 4 (length (now (buffer .entry))) ⌝ }
-    ensures after { λ _. ⌜ now (buffer .exit) ≡ put-front (to-bytes 4 n) (now (buffer .entry)) ⌝ }
-{
-    if buffer.len() < 4 {
-        return false;
-    }
-    buffer[0..4].copy_from_slice(&n.to_be_bytes());
-    true
-}
+use loads::word::put_u32;
 
 /// Writes the header at the front of the buffer and tells the place after it; nothing where the buffer is too short.
 pub fn put_header<K: Kind>(header: Header, buffer: &mut [u8]) -> Option<usize>
@@ -30,8 +19,8 @@ pub fn put_header<K: Kind>(header: Header, buffer: &mut [u8]) -> Option<usize>
         return None;
     }
     buffer[0] = K::kind_mark();
-    put_number(header.horizon, &mut buffer[1..]);
-    put_number(header.count, &mut buffer[5..]);
+    put_u32(header.horizon, &mut buffer[1..]);
+    put_u32(header.count, &mut buffer[5..]);
     Some(9)
 }
 
@@ -43,8 +32,8 @@ fn put_row_front<K: Kind>(row: Row<K::Load>, buffer: &mut [u8]) -> bool
     if room < 8 || room - 8 < K::image_len() {
         return false;
     }
-    put_number(row.offset, buffer);
-    put_number(row.length, &mut buffer[4..]);
+    put_u32(row.offset, buffer);
+    put_u32(row.length, &mut buffer[4..]);
     K::put(row.load, &mut buffer[8..])
 }
 

@@ -29,5 +29,5 @@ returns g c =
       after = three-put (f .mark ∷ []) (to-bytes 4 (c .args .header .horizon)) (to-bytes 4 (c .args .header .count)) buffer _ _ _ 1 4 4
           refl (length-to-bytes 4 (c .args .header .horizon)) (length-to-bytes 4 (c .args .header .count)) (omega arith)
           (set-front (c .kind-mark .result) buffer (omega arith) ∙ ap (λ m. put-front (m ∷ []) buffer) (c .kind-mark .ensures))
-          (c .put-number .ensures .after) (c .put-number-2 .ensures .after);
+          (c .put-u32 .ensures .after) (c .put-u32-2 .ensures .after);
     }

@@ -34,9 +34,9 @@ returns g c =
     let b = length-to-bytes 4 (c .args .row .length) in
     let i = g .K·Kind·met .lawful .sized _ (g .K·Kind·met .counted (c .args .row .load)) in
     let whole : row-size f ≤ length buffer = omega arith in
-    let first = joined-put (to-bytes 4 (c .args .row .offset)) (to-bytes 4 (c .args .row .length)) buffer _ _ 4 4 a b (omega arith) (c .put-number .ensures .after) (c .put-number-2 .ensures .after) in
+    let first = joined-put (to-bytes 4 (c .args .row .offset)) (to-bytes 4 (c .args .row .length)) buffer _ _ 4 4 a b (omega arith) (c .put-u32 .ensures .after) (c .put-u32-2 .ensures .after) in
     record {
       fits = c .put .ensures .fits ∙ (fits-rest buffer _ 8 (f .size) (length-put _ _ _ first) whole ∙ sym (le-leb _ _ whole));
       after = three-put (to-bytes 4 (c .args .row .offset)) (to-bytes 4 (c .args .row .length)) _ buffer _ _ _ 4 4 (f .size) a b i whole
-          (c .put-number .ensures .after) (c .put-number-2 .ensures .after) (c .put .ensures .after);
+          (c .put-u32 .ensures .after) (c .put-u32-2 .ensures .after) (c .put .ensures .after);
     }
