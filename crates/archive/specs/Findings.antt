@@ -1,4 +1,4 @@
--- What each line is found to be. Assumes nothing.
+-- What each line is found to be.
 use mathlib.Core.Bool.{Bool, true, false}
 use mathlib.Core.List.{List, [], _∷_}
 use Prim.Native.Nat.{ℕ}

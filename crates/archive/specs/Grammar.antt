@@ -1,4 +1,4 @@
--- The lines of an input, and the profile that a line files. Assumes nothing.
+-- The lines of an input, and the profile that a line files.
 use mathlib.Core.Bool.{cond}
 use mathlib.Core.List.{List, [], _∷_}
 use Prim.Native.Nat.{ℕ, _+_}

@@ -1,4 +1,4 @@
--- What is printed of a whole input. Assumes nothing.
+-- What is printed of a whole input.
 use mathlib.Core.List.{List, _++_, map}
 use Prim.Native.Nat.{ℕ}
 use lib.Chars.{codes}

@@ -1,4 +1,4 @@
--- What is printed of each line. Assumes nothing.
+-- What is printed of each line.
 use mathlib.Core.List.{List, [], _∷_, _++_}
 use Prim.Native.Nat.{ℕ}
 use lib.Chars.{codes}

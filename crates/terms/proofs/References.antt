@@ -1,4 +1,4 @@
--- References are equal where their plain forms are, and their order is total. Assumes nothing.
+-- References are equal where their plain forms are, and their order is total.
 use mathlib.Core.Path.{_≡_, ap}
 use mathlib.Core.Bool.{true}
 use mathlib.Core.HLevel.{isProp→PathP}

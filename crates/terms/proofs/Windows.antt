@@ -1,4 +1,4 @@
--- Windows are equal where their plain forms are. Assumes nothing.
+-- Windows are equal where their plain forms are.
 use mathlib.Core.Path.{_≡_}
 use mathlib.Core.Bool.{true}
 use mathlib.Core.HLevel.{×-prop, isProp→PathP}

@@ -1,4 +1,4 @@
--- References in plain numbers, and their order. Assumes nothing.
+-- References in plain numbers, and their order.
 use mathlib.Core.Path.{_≡_}
 use mathlib.Core.Bool.{Bool, true, false, cond, _&&_, _||_}
 use Prim.Native.Nat.{ℕ}

@@ -1,4 +1,4 @@
--- The number under which each refusal is written down; 19 is free. Assumes nothing.
+-- The number under which each refusal is written down; 19 is free.
 use Prim.Native.Nat.{ℕ}
 use Rattle.terms.specs.declared.refusal.Refusal.{Refusal}
 use Rattle.terms.specs.declared.refusal.Refusal.the-variants.{Horizon, Capacity, Tables, BadReference, BadWindow, PastHorizon, EmptyLoad, AboveCapacity, NoPossibleStart, BadField, BadLoad, OutOfTurn, ProfileLength, OtherMark, ProfileHorizon, NoImage, RowPlace, RowLoad, Shut, Standing, NotFirm, NotHeld, NoBookingPlace, DoesNotFit, NoBoundaryPlace, NoStart, StartExists, TooShort}

@@ -1,4 +1,4 @@
--- Windows in plain numbers. Assumes nothing.
+-- Windows in plain numbers.
 use mathlib.Core.Path.{_≡_}
 use mathlib.Core.Bool.{Bool, true, cond, _&&_}
 use Prim.Native.Nat.{ℕ, _+_}

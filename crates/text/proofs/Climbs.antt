@@ -1,4 +1,4 @@
--- In a list that rises, equal items stand together. Assumes nothing.
+-- In a list that rises, equal items stand together.
 use mathlib.Core.Path.{_≡_, refl, sym, ap, subst, _∙_}
 use mathlib.Core.Bool.{Bool, true, false, _||_, cond}
 use mathlib.Core.List.{List, [], _∷_, map}

@@ -1,4 +1,4 @@
--- The number of different items does not depend on their order. Assumes nothing.
+-- The number of different items does not depend on their order.
 use mathlib.Core.Path.{_≡_, refl, sym, ap, _∙_}
 use mathlib.Core.Bool.{Bool, true, false, not, _||_, cond}
 use mathlib.Core.List.{List, [], _∷_, map}

@@ -1,4 +1,4 @@
--- The digits of a number, written from the last to the first. Assumes nothing.
+-- The digits of a number, written from the last to the first.
 use mathlib.Core.Path.{_≡_, sym, ap, _∙_}
 use mathlib.Core.List.{List, [], _∷_, _++_}
 use Prim.Native.Nat.{ℕ, _+_, _-_, _/_, _%_, _^_, _≤_, _<_}

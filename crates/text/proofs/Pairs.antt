@@ -1,4 +1,4 @@
--- One pair of digits after another. Assumes nothing.
+-- One pair of digits after another.
 use mathlib.Core.Path.{_≡_, refl, sym, ap, _∙_}
 use mathlib.Core.Bool.{true}
 use mathlib.Core.List.{List, [], _∷_, _++_}

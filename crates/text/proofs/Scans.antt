@@ -1,4 +1,4 @@
--- A search from the left for a byte. Assumes nothing.
+-- A search from the left for a byte.
 use mathlib.Core.Path.{_≡_, _∙_}
 use mathlib.Core.List.{List}
 use Prim.Native.Nat.{ℕ, _+_, _≤_, _<_}

@@ -1,4 +1,4 @@
--- Digits that are written, and read back. Assumes nothing.
+-- Digits that are written, and read back.
 use mathlib.Core.Path.{_≡_, refl, sym, ap, subst, _∙_}
 use mathlib.Core.List.{List, [], _∷_, _++_}
 use Prim.Native.Nat.{ℕ, _+_, _*_, _/_, _%_, _≤_, _<_}

@@ -1,4 +1,4 @@
--- How many different items a list has. Assumes nothing.
+-- How many different items a list has.
 use mathlib.Core.Path.{_≡_}
 use mathlib.Core.Bool.{Bool, false, _||_, cond}
 use mathlib.Core.List.{List, [], _∷_}

@@ -1,4 +1,4 @@
--- Small hexadecimal digits, `0` to `9` and `a` to `f`, two to a byte. Assumes nothing.
+-- Small hexadecimal digits, `0` to `9` and `a` to `f`, two to a byte.
 use mathlib.Core.Path.{_≡_}
 use mathlib.Core.Bool.{_&&_, cond}
 use mathlib.Core.List.{List, [], _∷_}

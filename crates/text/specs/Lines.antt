@@ -1,4 +1,4 @@
--- Where lines and words end. Assumes nothing.
+-- Where lines and words end.
 use mathlib.Core.Bool.{cond}
 use mathlib.Core.List.{List, [], _∷_}
 use Prim.Native.Nat.{ℕ, _+_}

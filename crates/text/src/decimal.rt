@@ -27,8 +27,8 @@ fn digits_of(room: &mut [u8; MOST], n: u64) -> &[u8]
     &room[start..]
 }
 
-// Adds the digits of `n` without leading zeros. Where there is no memory for all of them, nothing is
-// added.
+/// Adds the digits of `n` without leading zeros. Where there is no memory for all of them, nothing is
+/// added.
 pub fn push_decimal(out: &mut Vec<u8>, n: u64) -> Result<(), AllocError>
     ensures items { λ r. ⌜ vec-items (now (out .exit)) ≡ cond (isOk r) (vec-items (now (out .entry)) ++ decimal n) (vec-items (now (out .entry))) ⌝ }
     ensures refuses { λ r. ⌜ Cases r (λ _. Unit {0}) (λ _. vec-cap (now (out .entry)) < vec-len (now (out .entry)) + length (decimal n)) ⌝ }

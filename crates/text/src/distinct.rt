@@ -41,7 +41,7 @@ fn grouped(items: Vec<Vec<u8>>) -> Vec<Vec<u8>>
     BinaryHeap::from(items).into_sorted_vec()
 }
 
-// How many different items there are.
+/// How many different items there are.
 pub fn distinct(items: Vec<Vec<u8>>) -> usize
     ensures { λ r. ⌜ r ≡ distinct-of (map vec-items (vec-items items)) ⌝ }
 {

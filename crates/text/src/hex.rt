@@ -11,7 +11,7 @@ ghost use Rattle.text.specs.Hex.{hex-value, pair-value, hex-bytes, hex-digit, 
 use std::alloc::AllocError;
 use std::alloc::Global;
 
-// The value of a small hexadecimal digit.
+/// The value of a small hexadecimal digit.
 pub fn digit_value(byte: u8) -> Option<u8>
     ensures { λ r. ⌜ r ≡ hex-value byte ⌝ }
 {
@@ -58,8 +58,8 @@ fn push_bytes(out: &mut Vec<u8>, digits: &[u8]) -> Result<(), AllocError>
     Ok(())
 }
 
-// The bytes that the digits write, `None` where they write none. Only digits that write some byte can
-// find no memory.
+/// The bytes that the digits write, `None` where they write none. Only digits that write some byte can
+/// find no memory.
 pub fn from_hex(heap: Global, digits: &[u8]) -> Result<Option<Vec<u8>>, AllocError>
     ensures { λ r. ⌜ Cases r (λ o. mapped vec-items o ≡ hex-bytes (now (digits .entry))) (λ _. (isSome (hex-bytes (now (digits .entry))) ≡ true) × (2 ≤ length (now (digits .entry)))) ⌝ }
 {
@@ -90,7 +90,7 @@ fn digits_of(byte: u8) -> [u8; 2]
     [digit_of(byte / 16), digit_of(byte % 16)]
 }
 
-// Adds two digits for each byte. Where there is no memory for all of them, nothing is added.
+/// Adds two digits for each byte. Where there is no memory for all of them, nothing is added.
 pub fn push_hex(out: &mut Vec<u8>, bytes: &[u8]) -> Result<(), AllocError>
     ensures items { λ r. ⌜ vec-items (now (out .exit)) ≡ cond (isOk r) (vec-items (now (out .entry)) ++ hex-text (now (bytes .entry))) (vec-items (now (out .entry))) ⌝ }
     ensures refuses { λ r. ⌜ Cases r (λ _. Unit {0}) (λ _. vec-cap (now (out .entry)) < vec-len (now (out .entry)) + 2 * length (now (bytes .entry))) ⌝ }

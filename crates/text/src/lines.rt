@@ -4,7 +4,7 @@ ghost use Prim.Native.Nat.{_<_, _≤_};
 ghost use lib.ListN.{length};
 ghost use Rattle.text.specs.Lines.{before, line-end, next-line, word-end};
 
-// Where the first line ends, and where the next begins.
+/// Where the first line ends, and where the next begins.
 #[derive(Clone, Copy)]
 pub struct Cut {
     pub line: usize,
@@ -24,7 +24,7 @@ fn index_of(bytes: &[u8], byte: u8) -> usize
     bytes.len()
 }
 
-// The first line goes up to a line feed, or to the end.
+/// The first line goes up to a line feed, or to the end.
 pub fn next_line(bytes: &[u8]) -> Cut
     ensures line { λ r. ⌜ r .line ≡ line-end (now (bytes .entry)) ⌝ }
     ensures next { λ r. ⌜ r .next ≡ next-line (now (bytes .entry)) ⌝ }
@@ -40,7 +40,7 @@ pub fn next_line(bytes: &[u8]) -> Cut
     Cut { line, next }
 }
 
-// The length of the first word, which goes up to a space, or to the end.
+/// The length of the first word, which goes up to a space, or to the end.
 pub fn word(bytes: &[u8]) -> usize
     ensures value { λ r. ⌜ r ≡ word-end (now (bytes .entry)) ⌝ }
     ensures bound { λ r. ⌜ r ≤ length (now (bytes .entry)) ⌝ }
