@@ -9,7 +9,7 @@ use Rattle.profile.specs.Wire.{read-profile}
 use Rattle.archive.specs.declared.kind_name.KindName.{KindName}
 use Rattle.archive.specs.Grammar.{format-of}
 
--- bytes are accepted for one kind only, so that equal bytes are of equal kinds
+-- bytes are accepted for one of the three kinds only, so that equal bytes are of equal kinds
 abbrev pub One-kind : Type 0
 One-kind = (j k : KindName) (bs : List ℕ) (p q : Profile) → read-profile (format-of j) bs ≡ Ok p → read-profile (format-of k) bs ≡ Ok q → j ≡ k
 

@@ -1,7 +1,7 @@
 // The text of what was read, pushed piece by piece.
 ghost use mathlib.Core.Path.{_≡_};
 ghost use mathlib.Core.List.{_++_};
-ghost use Prim.Native.Nat.{_-_, _^_, min};
+ghost use Rattle.loads.specs.Formats.{told};
 ghost use lib.ListN.{length};
 ghost use Rattle.std.specs.Of.Vec.{vec-items};
 ghost use Rattle.std.specs.Vec.{made};
@@ -45,7 +45,7 @@ fn push_row<K: Kind>(
     image: &mut [u8],
     row: Row<K::Load>,
 ) -> Result<(), AllocError>
-    requires { ⌜ length (now image) ≡ min (K·Kind .format .size) (2 ^ 64 - 1) ⌝ }
+    requires { ⌜ length (now image) ≡ told (K·Kind .format .size) ⌝ }
     ensures { λ r. ⌜ made r (λ _. vec-items (now (out .exit)) ≡ vec-items (now (out .entry)) ++ row-text (K·Kind .format) (row-of (K·Kind .counts) row)) ⌝ }
 {
     if !K::put(row.load, image) {
@@ -63,7 +63,7 @@ fn push_rows<K: Kind>(
     image: &mut [u8],
     rows: &[Row<K::Load>],
 ) -> Result<(), AllocError>
-    requires { ⌜ length (now image) ≡ min (K·Kind .format .size) (2 ^ 64 - 1) ⌝ }
+    requires { ⌜ length (now image) ≡ told (K·Kind .format .size) ⌝ }
     ensures { λ r. ⌜ made r (λ _. vec-items (now (out .exit)) ≡ vec-items (now (out .entry)) ++ joined (row-text (K·Kind .format)) (map (row-of (K·Kind .counts)) (now (rows .entry)))) ⌝ }
 {
     for row in rows {

@@ -80,8 +80,8 @@ impl Draft {
     }
 }
 
-/// What is printed of an input, any bytes. Bytes are accepted for one kind only, and one load at every minute has one
-/// byte string, so that the different byte strings are the different profiles.
+/// What is printed of an input, any bytes. Bytes are accepted for one of the three kinds only, and one load at every
+/// minute has one byte string, so that the different byte strings are the different profiles.
 pub fn report(heap: Global, input: &[u8]) -> Result<Vec<u8>, AllocError>
     ensures text { λ r. ⌜ made r (λ v. vec-items v ≡ report-text (now (input .entry))) ⌝ }
     ensures one_kind { λ _. ⌜ One-kind ⌝ }

@@ -64,9 +64,6 @@ joined-put xs ys buffer front rest n m p q l e h =
 pub read-long : (f : Format) (bs : List ℕ) → f .size ≤ length bs → read-front f bs ≡ or-no-image (f .decode (take (f .size) bs))
 read-long f bs h = cond-true _ _ _ (le-leb (f .size) (length bs) h)
 
-pub read-short : (f : Format) (bs : List ℕ) → length bs < f .size → read-front f bs ≡ Err Short
-read-short f bs h = cond-false _ _ _ (lt-leb (f .size) (length bs) h)
-
 or-cond : (b : Bool) (cs : List ℕ) → or-no-image (cond b (Some cs) None) ≡ cond b (Ok cs) (Err NoImage)
 or-cond true cs = refl
 or-cond false cs = refl

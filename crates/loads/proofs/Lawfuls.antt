@@ -55,13 +55,6 @@ crews-lawful = digits-lawful 2 1 64 8 (omega arith, omega arith) (omega arith) (
 
 -- ---- pairs
 
--- joined lists of one length each are equal in their parts
-pub apart : {X : Type 0} (xs ys zs ws : List X) → length xs ≡ length zs → xs ++ ys ≡ zs ++ ws → (xs ≡ zs) × (ys ≡ ws)
-apart xs ys zs ws e h = (
-  sym (take-at xs ys (length zs) e) ∙ ap (take (length zs)) h ∙ take-at zs ws (length zs) refl,
-  sym (drop-at xs ys (length zs) e) ∙ ap (drop (length zs)) h ∙ drop-at zs ws (length zs) refl,
-)
-
 -- counts of both kinds are counts of each
 pub both-counted : (f g : Format) (xs ys : List ℕ) → Counted f xs → Counted g ys → Counted (pair-format f g) (xs ++ ys)
 both-counted f g xs ys p q = within-append xs ys (f .ceilings) (g .ceilings) (within-length xs (f .ceilings) p) ∙ and-from _ _ p q

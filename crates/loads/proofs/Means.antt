@@ -1,5 +1,5 @@
 -- The meanings, proved.
-use mathlib.Core.Path.{_≡_, refl, ap, ap₂, sym, _∙_}
+use mathlib.Core.Path.{_≡_, refl, ap, ap₂, sym, subst, _∙_}
 use mathlib.Core.Bool.{Bool, true, false, _&&_, _||_}
 use mathlib.Core.Logic.{_⊎_, inl, inr}
 use mathlib.Core.List.{List, [], _∷_}
@@ -7,7 +7,7 @@ use Prim.Native.Nat.{ℕ, zero, suc, _+_, _-_, _*_, _/_, _%_, _^_, _≤_, _<_}
 use native.Mathlib.Omega.{arith}
 use native.Mathlib.Nat.{pow-zero, pow-succ', div-one, div-div-eq-div-mul}
 use lib.Dec.{leb, ltb, eqb}
-use lib.ListN.{length, getD}
+use lib.ListN.{length, getD, replicate}
 use Rattle.std.specs.declared.option.Option.{Option}
 use Rattle.std.specs.declared.option.Option.the-variants.{Some}
 use Rattle.std.specs.Orderings.{Decides}
@@ -16,9 +16,10 @@ use Rattle.std.proofs.shelf.Tests.{leb-true, le-leb, false≢true}
 use Rattle.std.proofs.shelf.Ways.{decides-like, decides-and, decides-or, decides-eqb, decides-ltb}
 use Rattle.loads.specs.Counts.{by-each, within, alike, empty, part-of-excess}
 use Rattle.loads.specs.Digits.{digits, level, to-bytes}
-use Rattle.loads.specs.Formats.{Format, Counted, Lawful}
+use Rattle.loads.specs.Formats.{Format, Counted, Lawful, zeros}
 use Rattle.loads.specs.Meaning.{Meanings}
-use Rattle.loads.proofs.Places.{length-digits}
+use Rattle.loads.proofs.Joins.{length-by-each, within-length}
+use Rattle.loads.proofs.Places.{length-digits, length-level, length-to-bytes, number-digits, from-to-bytes}
 
 pub decides-leb : (a b : ℕ) → Decides (leb a b) (a ≤ b)
 decides-leb a b = (leb-true a b, le-leb a b)
@@ -109,15 +110,32 @@ images-tell f l cs ds p q e =
     let h = ap (f .decode) e in
     let s : Some cs ≡ Some ds = cc in cc
 
+-- equal to the empty load is empty
+pub alike-zeros : (cs : List ℕ) (n : ℕ) → length cs ≡ n → alike cs (replicate n 0) ≡ empty cs
+alike-zeros [] zero e = refl
+alike-zeros [] (suc n) e = absurd (omega arith)
+alike-zeros (c ∷ cs) zero e = absurd (omega arith)
+alike-zeros (c ∷ cs) (suc n) e = ap (λ b. eqb c 0 && b) (alike-zeros cs n (omega arith))
+
+zeros-is : (f : Format) (cs : List ℕ) → Counted f cs → Decides (empty cs) (cs ≡ zeros f)
+zeros-is f cs c = subst (λ b. Decides b (cs ≡ zeros f)) (alike-zeros cs (length (f .ceilings)) (within-length cs (f .ceilings) c)) (alike-is cs (zeros f))
+
 pub meanings : Meanings
 meanings = record {
   within-is = within-is;
   alike-is = alike-is;
   empty-is = empty-is;
   each-is = each-is;
+  each-long = length-by-each;
   excess-is = excess-is;
   digit-is = digit-is;
+  digits-long = length-digits;
+  number-is = number-digits;
   level-is = level-is;
+  level-long = length-level;
   byte-is = byte-is;
+  bytes-long = length-to-bytes;
+  from-is = from-to-bytes;
+  zeros-is = zeros-is;
   images-tell = images-tell;
 }

@@ -1,8 +1,8 @@
 -- The format of a kind of load: what its loads are as counts and as bytes.
 use mathlib.Core.Path.{_≡_}
-use mathlib.Core.Bool.{Bool, true, cond}
+use mathlib.Core.Bool.{true, cond}
 use mathlib.Core.List.{List, [], _∷_, _++_}
-use Prim.Native.Nat.{ℕ, _+_, _^_, _<_}
+use Prim.Native.Nat.{ℕ, _+_, _-_, _^_, _<_, min}
 use lib.Dec.{leb, ltb}
 use lib.ListN.{length, take, drop, replicate}
 use Rattle.std.specs.shelf.Lists.{All}
@@ -33,6 +33,10 @@ Counted f cs = within cs (f .ceilings) ≡ true
 
 abbrev pub Bytes : List ℕ → Type 0
 Bytes bs = All (λ b. b < 256) bs
+
+-- a number as 64 bits can tell it: the largest one where it is more
+abbrev pub told : ℕ → ℕ
+told n = min n (2 ^ 64 - 1)
 
 -- the counts of the empty load
 abbrev pub zeros : Format → List ℕ

@@ -11,8 +11,10 @@ use crate::kind::Kind;
 use crate::kind::LoadFault;
 use crate::word::put_u32;
 
+/// The kind of a channel's rate.
 pub struct Airtime;
 
+/// A rate in kbit/s, at most 1,000,000.
 #[derive(Clone, Copy)]
 pub struct AirtimeLoad {
     rate: u32,

@@ -6,8 +6,10 @@ ghost use Rattle.loads.specs.Formats.{crews-format};
 use crate::kind::Kind;
 use crate::kind::LoadFault;
 
+/// The kind of a pool of 64 crews.
 pub struct Crews;
 
+/// Some of the crews, a bit for each.
 #[derive(Clone, Copy)]
 pub struct CrewsLoad {
     word: u64,

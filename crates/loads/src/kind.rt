@@ -1,13 +1,13 @@
 // A kind of load: a fixed list of resources, each with a ceiling, and loads that mean one count for each.
 ghost use mathlib.Core.Path.{_≡_};
 ghost use mathlib.Core.List.{List};
-ghost use Prim.Native.Nat.{ℕ, _-_, _^_, min};
+ghost use Prim.Native.Nat.{ℕ};
 ghost use lib.Dec.{leb};
 ghost use lib.ListN.{length};
 ghost use Rattle.std.specs.Options.{mapped};
 ghost use Rattle.std.specs.Results.{mapped as answered};
 ghost use Rattle.loads.specs.Counts.{alike, greater, add-counts, take-counts, fits-counts, in-the-way};
-ghost use Rattle.loads.specs.Formats.{Format, Lawful, Counted, zeros, put-front, read-front};
+ghost use Rattle.loads.specs.Formats.{Format, Lawful, Counted, told, zeros, put-front, read-front};
 
 /// Why no load could be read from the front of some bytes.
 #[derive(Clone, Copy, PartialEq, Eq, Debug)]
@@ -21,8 +21,10 @@ pub enum LoadFault {
 /// What a kind does is told by the counts of its loads and by its format, a ghost: its mark, its ceilings, and how
 /// counts are written as bytes.
 pub trait Kind {
+    /// The kind's own form of load.
     type Load: Copy;
 
+    /// The number with which the kind's profiles begin.
     const MARK: u8;
 
     ghost format: { Format };
@@ -72,7 +74,7 @@ pub trait Kind {
 
     /// How many bytes each image has, or the largest number where they are more.
     fn image_len() -> u64
-        ensures { λ r. ⌜ r ≡ min (format .size) (2 ^ 64 - 1) ⌝ };
+        ensures { λ r. ⌜ r ≡ told (format .size) ⌝ };
 
     /// Writes the image at the front of the buffer and keeps the rest; false, and nothing written, where it is shorter.
     fn put(load: Self::Load, buffer: &mut [u8]) -> bool

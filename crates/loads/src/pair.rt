@@ -4,8 +4,10 @@ ghost use Rattle.loads.specs.Formats.{pair-format};
 use crate::kind::Kind;
 use crate::kind::LoadFault;
 
+/// The kind of a load of each of two kinds.
 pub struct Pair<A, B>(A, B);
 
+/// A load of the first kind, and one of the second.
 #[derive(Clone, Copy)]
 pub struct PairLoad<X, Y> {
     pub first: X,

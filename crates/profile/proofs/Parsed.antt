@@ -18,8 +18,9 @@ use Rattle.terms.specs.declared.refusal.Refusal.the-variants.{ProfileHorizon}
 use Rattle.loads.specs.declared.kind.LoadFault.{LoadFault}
 use Rattle.loads.specs.Counts.{alike, empty}
 use Rattle.loads.specs.Digits.{from-bytes}
-use Rattle.loads.specs.Formats.{Format, zeros, read-front}
+use Rattle.loads.specs.Formats.{Format, told, zeros, read-front}
 use Rattle.loads.proofs.Fronts.{front-4}
+use Rattle.loads.proofs.Means.{alike-zeros}
 use Rattle.loads.proofs.Places.{word-4}
 use Rattle.profile.specs.Rows.{Row, goes-on, misloaded, lawful-horizon}
 use Rattle.profile.specs.Wire.{Header, read-header, with-load, row-at, row-size}
@@ -42,20 +43,13 @@ row-is f bs o m x l p q r =
     ∙ (ap (λ i. with-load (from-bytes (take 4 bs)) i x) q
     ∙ (ap (with-load (from-bytes (take 4 bs)) (from-bytes (take 4 (drop 4 bs)))) r ∙ sym (cond-true _ _ _ (le-leb 8 (length bs) l))))
 
--- equal to the empty load is empty
-pub alike-zeros : (cs : List ℕ) (n : ℕ) → length cs ≡ n → alike cs (replicate n 0) ≡ empty cs
-alike-zeros [] zero e = refl
-alike-zeros [] (suc n) e = absurd (omega arith)
-alike-zeros (c ∷ cs) zero e = absurd (omega arith)
-alike-zeros (c ∷ cs) (suc n) e = ap (λ b. eqb c 0 && b) (alike-zeros cs n (omega arith))
-
 pub misloaded-is : (f : Format) (before : Option Row) (r : Row) (none : List ℕ) (a b : Bool) → length (r .load) ≡ length (f .ceilings) → none ≡ zeros f
     → a ≡ alike (r .load) none → b ≡ goes-on before r → (a || b) ≡ misloaded before r
 misloaded-is f before r none a b l z p q = ap₂ _||_ (p ∙ (ap (alike (r .load)) z ∙ alike-zeros (r .load) (length (f .ceilings)) l)) q
 
--- a size that stops at the largest number leaves as much
-pub drop-told : (size : ℕ) (bs : List ℕ) → length bs < 2 ^ 64 → drop (min (min size (2 ^ 64 - 1) + 8) (2 ^ 64 - 1)) bs ≡ drop (8 + size) bs
-drop-told size bs h = elim (cases-lt (8 + size) (2 ^ 64)) [
-  | inl l ↦ let e : min (min size (2 ^ 64 - 1) + 8) (2 ^ 64 - 1) ≡ 8 + size = omega arith in ap (λ n. drop n bs) e
-  | inr l ↦ drop-all (min (min size (2 ^ 64 - 1) + 8) (2 ^ 64 - 1)) bs (omega arith) ∙ sym (drop-all (8 + size) bs (omega arith))
+-- a number that stops at the largest leaves as much
+pub drop-told : (n : ℕ) (bs : List ℕ) → length bs < 2 ^ 64 → drop (told n) bs ≡ drop n bs
+drop-told n bs h = elim (cases-lt n (2 ^ 64)) [
+  | inl l ↦ let e : told n ≡ n = omega arith in ap (λ k. drop k bs) e
+  | inr l ↦ drop-all (told n) bs (omega arith) ∙ sym (drop-all n bs (omega arith))
 ]

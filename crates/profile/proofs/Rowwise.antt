@@ -16,10 +16,10 @@ use Rattle.std.proofs.shelf.Lists.{at-drop-more, joined-more, map-more, take-ap
 use Rattle.std.proofs.shelf.Tests.{cases-lt, leb-true, le-leb, leb-false, lt-leb, cond-true, cond-false}
 use Rattle.std.proofs.shelf.Ways.{same-from-decides}
 use Rattle.terms.specs.declared.refusal.Refusal.{Refusal}
-use Rattle.loads.specs.Formats.{Format, Counted, Lawful}
+use Rattle.loads.specs.Formats.{Format, Counted, Lawful, told}
 use Rattle.loads.proofs.Means.{decides-leb}
 use Rattle.profile.specs.Rows.{Row, end-before, end-of, row-fault, or-fault, rows-fault}
-use Rattle.profile.specs.Wire.{row-bytes, row-size, profile-size, told, put-at, place-after}
+use Rattle.profile.specs.Wire.{row-bytes, row-size, profile-size, put-at, place-after}
 use Rattle.profile.proofs.Once.{cut}
 use Rattle.profile.proofs.Putting.{put-at-long, put-more}
 use Rattle.profile.proofs.Written.{length-rows, length-row}
@@ -44,9 +44,9 @@ rows-few h before (r ∷ rs) e l =
 
 -- ---- room
 
--- a size that stops at the largest number
-abbrev pub row-told : ℕ → ℕ
-row-told size = min (min size (2 ^ 64 - 1) + 8) (2 ^ 64 - 1)
+-- the length of a row, which stops at the largest number
+abbrev row-told : ℕ → ℕ
+row-told size = told (8 + size)
 
 -- so many rows fit what is left after the header, told by a quotient
 pub room-is : (size n room : ℕ) → 9 ≤ room → room < 2 ^ 64 → leb n ((room - 9) / row-told size) ≡ leb (9 + n * (8 + size)) room

@@ -17,10 +17,10 @@ use Rattle.std.proofs.shelf.Lists.{take-at}
 use Rattle.std.proofs.shelf.Tests.{cases-bool, and-parts, leb-true, cond-true, cond-false}
 use Rattle.terms.specs.declared.refusal.Refusal.{Refusal}
 use Rattle.terms.specs.declared.refusal.Refusal.the-variants.{ProfileHorizon, TooShort}
-use Rattle.loads.specs.Formats.{Format, Counted, Lawful, put-front}
+use Rattle.loads.specs.Formats.{Format, Counted, Lawful, told, put-front}
 use Rattle.loads.proofs.Fronts.{put-long}
 use Rattle.profile.specs.Rows.{Row, Profile, rows-fault, lawful-horizon, profile-fault, unless}
-use Rattle.profile.specs.Wire.{row-bytes, row-size, header-bytes, profile-bytes, profile-size, told, in-room, write-answer, put-at, read-profile}
+use Rattle.profile.specs.Wire.{row-bytes, row-size, header-bytes, profile-bytes, profile-size, in-room, write-answer, put-at, read-profile}
 use Rattle.profile.specs.Laws.{Writable, Fits-bytes}
 use Rattle.profile.proofs.Once.{cut, none-not-some, rows-free}
 use Rattle.profile.proofs.Putting.{put-at-long, put-more}

@@ -1,8 +1,8 @@
 -- The bytes of a profile: how it is written, and what is read from bytes.
-use mathlib.Core.Bool.{Bool, true, false, cond}
+use mathlib.Core.Bool.{cond}
 use mathlib.Core.List.{List, [], _∷_, _++_}
-use Prim.Native.Nat.{ℕ, zero, suc, _+_, _-_, _*_, _^_, min}
-use lib.Dec.{leb, ltb, eqb}
+use Prim.Native.Nat.{ℕ, zero, suc, _+_, _*_}
+use lib.Dec.{leb, eqb}
 use lib.ListN.{length, take, drop, getD}
 use Rattle.std.specs.shelf.Lists.{joined}
 use Rattle.std.specs.declared.option.Option.{Option}
@@ -15,7 +15,7 @@ use Rattle.terms.specs.declared.refusal.Refusal.the-variants.{ProfileLength, Ot
 use Rattle.loads.specs.declared.kind.LoadFault.{LoadFault}
 use Rattle.loads.specs.declared.kind.LoadFault.the-variants.{Short, NoImage as Garbled}
 use Rattle.loads.specs.Digits.{to-bytes, from-bytes}
-use Rattle.loads.specs.Formats.{Format, read-front}
+use Rattle.loads.specs.Formats.{Format, told, read-front}
 use Rattle.profile.specs.Rows.{Row, Profile, row-fault, lawful-horizon, profile-fault, unless}
 
 -- ---- writing
@@ -36,10 +36,6 @@ profile-bytes f p = header-bytes f (p .horizon) (length (p .rows)) ++ joined (ro
 
 abbrev pub profile-size : Format → ℕ → ℕ
 profile-size f count = 9 + count * row-size f
-
--- a number as 64 bits can tell it: the largest one where it is more
-abbrev pub told : ℕ → ℕ
-told n = min n (2 ^ 64 - 1)
 
 -- the length written, or the bytes needed where the room is too short
 abbrev pub in-room : ℕ → ℕ → Result ℕ Refusal
@@ -131,7 +127,7 @@ then-body f body (Err e) = Err e
 abbrev pub read-profile : Format → List ℕ → Result Profile Refusal
 read-profile f bs = then-body f (drop 9 bs) (read-header f bs)
 
--- how long a profile is told to be
+-- the header of a profile that was read, or why there is none
 abbrev pub header-read : Result Profile Refusal → Result Header Refusal
 header-read (Ok p) = Ok (record { horizon = p .horizon; count = length (p .rows) })
 header-read (Err e) = Err e

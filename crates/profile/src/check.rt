@@ -1,11 +1,11 @@
 // Whether bytes are a profile: the header, and then row by row.
 ghost use mathlib.Core.Path.{_≡_};
-ghost use mathlib.Core.Bool.{Bool};
 ghost use mathlib.Core.List.{List};
 ghost use Prim.Native.Nat.{ℕ, _+_};
 ghost use lib.ListN.{drop};
 ghost use Rattle.std.specs.Options.{mapped};
 ghost use Rattle.std.specs.Results.{mapped as answered};
+ghost use Rattle.loads.specs.Formats.{told};
 ghost use Rattle.profile.specs.Rows.{end-before, misplaced, misloaded, goes-on, row-fault, lawful-horizon};
 ghost use Rattle.profile.specs.Views.{row-of, header-of};
 ghost use Rattle.profile.specs.Wire.{read-header, refusal-of, row-at, next-row, row-size};
@@ -15,7 +15,11 @@ use loads::kind::Kind;
 use loads::kind::LoadFault;
 use terms::refusal::Refusal;
 
+/// The longest horizon, in minutes.
 const LONGEST: u32 = 1_000_000_000;
+
+/// Mark, horizon and number of rows.
+pub(crate) const HEADER_LEN: u64 = 9;
 
 /// 1 to 1,000,000,000 minutes.
 pub(crate) fn lawful_horizon(horizon: u32) -> bool
@@ -155,12 +159,19 @@ fn rest_from(bytes: &[u8], at: u64) -> &[u8]
 pub(crate) fn body(bytes: &[u8]) -> &[u8]
     ensures { λ r. ⌜ now r ≡ drop 9 (now (bytes .entry)) ⌝ }
 {
-    rest_from(bytes, 9)
+    rest_from(bytes, HEADER_LEN)
+}
+
+/// How many bytes a row has, or the largest number where they are more.
+pub(crate) fn row_len<K: Kind>() -> u64
+    ensures { λ r. ⌜ r ≡ told (row-size (K·Kind .format)) ⌝ }
+{
+    K::image_len().saturating_add(8)
 }
 
 /// What follows the row at the front.
 pub(crate) fn after_row<K: Kind>(bytes: &[u8]) -> &[u8]
     ensures { λ r. ⌜ now r ≡ drop (row-size (K·Kind .format)) (now (bytes .entry)) ⌝ }
 {
-    rest_from(bytes, K::image_len().saturating_add(8))
+    rest_from(bytes, row_len::<K>())
 }

@@ -18,6 +18,7 @@ pub fn put_header<K: Kind>(header: Header, buffer: &mut [u8]) -> Option<usize>
     if buffer.len() < 9 {
         return None;
     }
+    // There is room for all three, so none is left out.
     buffer[0] = K::kind_mark();
     put_u32(header.horizon, &mut buffer[1..]);
     put_u32(header.count, &mut buffer[5..]);

@@ -21,6 +21,7 @@ pub struct Header {
     pub count: u32,
 }
 
+/// A horizon in minutes, and the rows below it.
 #[derive(Drop)]
 pub struct Profile<L> {
     pub horizon: u32,

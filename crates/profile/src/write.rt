@@ -8,12 +8,15 @@ ghost use Rattle.std.specs.shelf.Lists.{joined};
 ghost use Rattle.std.specs.Vec.{made};
 ghost use Rattle.std.specs.declared.option.Option.the-variants.{Some};
 ghost use Rattle.std.specs.declared.result.Result.the-variants.{Ok};
+ghost use Rattle.loads.specs.Formats.{told};
 ghost use Rattle.profile.specs.Laws.{Reads-back};
 ghost use Rattle.profile.specs.Rows.{profile-fault};
 ghost use Rattle.profile.specs.Views.{row-of, profile-of};
-ghost use Rattle.profile.specs.Wire.{row-bytes, row-size, profile-bytes, profile-size, told, write-answer, written, put-at, read-profile};
+ghost use Rattle.profile.specs.Wire.{row-bytes, row-size, profile-bytes, profile-size, write-answer, written, put-at, read-profile};
+use crate::check::HEADER_LEN;
 use crate::check::lawful_horizon;
 use crate::check::row_fault;
+use crate::check::row_len;
 use crate::put::put_header;
 use crate::put::put_row;
 use crate::row::Header;
@@ -25,19 +28,16 @@ use terms::refusal::Refusal;
 pub fn profile_len<K: Kind>(rows: usize) -> u64
     ensures { λ r. ⌜ r ≡ told (profile-size (K·Kind .format) rows) ⌝ }
 {
-    let row = K::image_len().saturating_add(8);
-    row.saturating_mul(rows as u64).saturating_add(9)
+    let rows_len = row_len::<K>().saturating_mul(rows as u64);
+    rows_len.saturating_add(HEADER_LEN)
 }
 
 // Whether a profile of so many rows fits the room; by a quotient, which cannot overflow.
 fn has_room<K: Kind>(rows: usize, room: usize) -> bool
     ensures { λ r. ⌜ r ≡ leb (profile-size (K·Kind .format) rows) room ⌝ }
 {
-    if room < 9 {
-        return false;
-    }
-    let row = K::image_len().saturating_add(8);
-    rows as u64 <= (room as u64 - 9) / row
+    let room = room as u64;
+    HEADER_LEN <= room && rows as u64 <= (room - HEADER_LEN) / row_len::<K>()
 }
 
 // Why the horizon and the rows are no profile.
@@ -89,6 +89,7 @@ pub fn write<K: Kind>(
     if !has_room::<K>(rows.len(), buffer.len()) {
         return Err(short);
     }
+    // Rows without fault have a minute each below the horizon, so 32 bits hold their number.
     let count = rows.len() as u32;
     let Some(start) = put_header::<K>(Header { horizon, count }, buffer) else {
         return Err(short);

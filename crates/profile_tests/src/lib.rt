@@ -37,6 +37,13 @@ mod tests {
     }
 
     #[test]
+    fn marks_are_those_of_the_kinds() -> Result<(), Fail> {
+        check_eq(Airtime::MARK, Airtime::kind_mark())?;
+        check_eq(Crews::MARK, Crews::kind_mark())?;
+        check_eq(Nested::MARK, Nested::kind_mark())
+    }
+
+    #[test]
     fn one_row_is_written() -> Result<(), Fail> {
         let rows = [airtime(60, 120, 40)?];
         let mut buffer = [9u8; 23];

@@ -2,6 +2,7 @@
 ghost use mathlib.Core.Path.{_≡_};
 ghost use Rattle.terms.specs.Refusals.{number-of};
 
+/// Each case has a number of its own, under which it is written down.
 #[derive(Clone, Copy, PartialEq, Eq, Debug)]
 pub enum Refusal {
     /// The horizon is 0 or above 1,000,000,000.
@@ -12,7 +13,7 @@ pub enum Refusal {
     Tables,
     /// The institute or the serial is out of range.
     BadReference,
-    /// The length is 0, or the window's end is above 1,000,000,000.
+    /// The length is 0, or a window's end is above 1,000,000,000; of a search for a start, only that the length is 0.
     BadWindow,
     /// The end or the deadline is above the horizon.
     PastHorizon,
@@ -30,7 +31,7 @@ pub enum Refusal {
     OutOfTurn,
     /// The profile is too short or too long.
     ProfileLength,
-    /// The profile has another kind's mark.
+    /// The profile has another mark than the kind's.
     OtherMark,
     /// The profile's horizon is 0 or above 1,000,000,000.
     ProfileHorizon,
@@ -48,11 +49,11 @@ pub enum Refusal {
     NotFirm,
     /// The hold's number is another, or no held booking of its reference stands.
     NotHeld,
-    /// The booking table has no free place.
+    /// As many bookings stand as there are booking places.
     NoBookingPlace,
     /// At some moment of the window the load does not fit.
     DoesNotFit,
-    /// The boundary table has no free place.
+    /// There would be more boundaries than places after the call.
     NoBoundaryPlace,
     /// There is no start; so many blocked stretches are listed.
     NoStart(u64),

@@ -9,7 +9,7 @@ ghost use Rattle.std.specs.Results.{isOk, Cases};
 ghost use Rattle.std.specs.Written.{decimal};
 use std::alloc::AllocError;
 
-// The digits of the largest number.
+// How many digits the largest number has.
 const MOST: usize = 20;
 
 // Writes the digits of `n` at the end of `room`, and answers them.

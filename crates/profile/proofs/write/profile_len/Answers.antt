@@ -1,12 +1,11 @@
 use mathlib.Core.Path.{_≡_, ap, _∙_}
-use Prim.Native.Nat.{_+_, _-_, _*_, _^_, min}
-use native.Mathlib.Omega.{arith}
-use Rattle.profile.proofs.Rowwise.{row-told, size-told}
+use Prim.Native.Nat.{_+_, _*_}
+use Rattle.loads.specs.Formats.{told}
+use Rattle.profile.proofs.Rowwise.{size-told}
 use Rattle.profile.proofs.write.profile_len.Needs as need
 
 pub returns : need.returns
 returns g c =
-    let e : c .saturating-add-row .result ≡ row-told (g .K·Kind .format .size) = omega (arith, c .saturating-add-row .ensures, c .image-len .ensures) in
     c .saturating-add .ensures
-    ∙ (ap (λ n. min (n + 9) (2 ^ 64 - 1)) (c .saturating-mul .ensures)
-    ∙ (ap (λ d. min (min (d * c .args .rows) (2 ^ 64 - 1) + 9) (2 ^ 64 - 1)) e ∙ size-told (g .K·Kind .format .size) (c .args .rows)))
+    ∙ (ap (λ n. told (n + 9)) (c .saturating-mul-rows-len .ensures)
+    ∙ (ap (λ d. told (told (d * c .args .rows) + 9)) (c .row-len .ensures) ∙ size-told (g .K·Kind .format .size) (c .args .rows)))
