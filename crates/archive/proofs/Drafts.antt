@@ -1,11 +1,11 @@
 -- A draft of the report, one line after another.
 use mathlib.Core.Path.{_≡_, refl, ap, ap₂, sym, _∙_}
-use mathlib.Core.Bool.{Bool, true, false, cond}
+use mathlib.Core.Bool.{Bool, cond}
 use mathlib.Core.List.{List, [], _∷_, _++_, map}
-use Prim.Native.Nat.{ℕ, suc, _+_, _-_, _^_, _≤_, _<_}
+use Prim.Native.Nat.{ℕ, suc, _+_, _-_, _^_, _<_}
 use native.Mathlib.Omega.{arith}
 use lib.ListN.{length, take, drop}
-use Rattle.std.specs.Of.Vec.{vec-items, vec-len}
+use Rattle.std.specs.Of.Vec.{vec-items}
 use Rattle.std.specs.declared.option.Option.the-variants.{Some, None}
 use Rattle.std.specs.declared.result.Result.the-variants.{Ok, Err}
 use Rattle.std.specs.shelf.Lists.{joined, countBy}
@@ -17,10 +17,10 @@ use Rattle.text.specs.Lines.{line-end, next-line}
 use Rattle.archive.specs.declared.report.Draft.{Draft}
 use Rattle.archive.specs.Findings.{Finding, bad, refused, accepted, finding, is-bad, is-refused, accepted-bytes, verdict}
 use Rattle.archive.specs.Grammar.{lines-of}
-use Rattle.archive.specs.Reports.{Totals, totals-of, findings-text, findings-of}
+use Rattle.archive.specs.Reports.{Totals, totals-of, findings-of}
 use Rattle.archive.specs.Texts.{answer-text}
 use Rattle.archive.specs.Views.{Holds}
-use Rattle.archive.proofs.Lines.{cut, lines-more, lines-few}
+use Rattle.archive.proofs.Lines.{lines-more, lines-few}
 
 -- what a finding adds to the counts: bad lines, refused lines, accepted bytes
 pub record Adds (f : Finding) (b r : ℕ) (a : List (List ℕ)) : Type 0 where

@@ -2,7 +2,7 @@
 use mathlib.Core.Path.{_≡_, refl, ap, ap₂, sym, _∙_}
 use mathlib.Core.Bool.{Bool, true, false, cond}
 use mathlib.Core.List.{List, [], _∷_, _++_}
-use mathlib.Core.Logic.{_⊎_, inl, inr, ⊎-elim}
+use mathlib.Core.Logic.{inl, inr}
 use Prim.Native.Nat.{ℕ, _+_, _-_, _^_, _≤_, _<_}
 use native.Mathlib.Omega.{arith}
 use lib.Dec.{leb, ltb}
@@ -15,7 +15,7 @@ use Rattle.std.specs.declared.result.Result.the-variants.{Ok, Err}
 use Rattle.std.proofs.shelf.Lists.{take-at, drop-at, take-rest, drop-drop, drop-all, append-nil, append-assoc, take-take, drop-take, take-append-drop, getD-drop}
 use Rattle.std.proofs.shelf.Tests.{cases-lt, le-leb, lt-leb, cond-true, cond-false}
 use Rattle.loads.specs.declared.kind.LoadFault.{LoadFault}
-use Rattle.loads.specs.declared.kind.LoadFault.the-variants.{Short, NoImage}
+use Rattle.loads.specs.declared.kind.LoadFault.the-variants.{NoImage}
 use Rattle.loads.specs.Digits.{digits, to-bytes, from-bytes}
 use Rattle.loads.specs.Formats.{Format, digits-format, pair-format, both, put-front, or-no-image, read-front}
 use Rattle.loads.proofs.Places.{length-to-bytes}

@@ -1,12 +1,12 @@
 -- Digits in any base: how many, how large, and that digits and numbers tell each other. Bytes are digits in base 256.
 use mathlib.Core.Path.{_≡_, refl, ap, ap₂, sym, subst, _∙_}
-use mathlib.Core.Bool.{Bool, true, false, _&&_}
+use mathlib.Core.Bool.{true}
 use mathlib.Core.List.{List, [], _∷_, reverse}
-use Prim.Native.Nat.{ℕ, zero, suc, _+_, _-_, _*_, _/_, _%_, _^_, _≤_, _<_}
+use Prim.Native.Nat.{ℕ, zero, suc, _+_, _-_, _*_, _/_, _%_, _^_, _<_}
 use native.Mathlib.Omega.{arith}
 use native.Mathlib.Nat.{pow-zero, pow-suc, pow-succ', zero-mod, zero-div, div-div-eq-div-mul, mod-eq-of-lt}
 use lib.Dec.{leb}
-use lib.ListN.{length, getD, replicate, length-reverse}
+use lib.ListN.{length, replicate, length-reverse}
 use Rattle.std.specs.shelf.Lists.{All}
 use Rattle.std.proofs.shelf.Lists.{reverse-reverse, getD-reverse}
 use Rattle.std.proofs.shelf.Elements.{all-getD, all-from-getD}

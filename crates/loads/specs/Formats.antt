@@ -1,7 +1,7 @@
 -- The format of a kind of load: what its loads are as counts and as bytes.
 use mathlib.Core.Path.{_≡_}
 use mathlib.Core.Bool.{true, cond}
-use mathlib.Core.List.{List, [], _∷_, _++_}
+use mathlib.Core.List.{List, _++_}
 use Prim.Native.Nat.{ℕ, _+_, _-_, _^_, _<_, min}
 use lib.Dec.{leb, ltb}
 use lib.ListN.{length, take, drop, replicate}

@@ -1,6 +1,5 @@
 -- What the definitions of Counts, Digits and Formats say, resource by resource.
 use mathlib.Core.Path.{_≡_}
-use mathlib.Core.Bool.{true}
 use mathlib.Core.List.{List}
 use Prim.Native.Nat.{ℕ, _-_, _/_, _%_, _^_, _≤_, _<_}
 use lib.ListN.{length, getD}

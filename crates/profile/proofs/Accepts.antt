@@ -1,7 +1,6 @@
 -- What the reader accepts is the writing of what it gives.
 use mathlib.Core.Path.{_≡_, refl, ap, ap₂, sym, subst, _∙_}
 use mathlib.Core.Bool.{Bool, true, false, cond}
-use mathlib.Core.Logic.{inl, inr}
 use mathlib.Core.List.{List, [], _∷_, _++_}
 use Prim.Native.Nat.{ℕ, zero, suc, _+_, _^_, _≤_, _<_}
 use native.Mathlib.Omega.{arith}
@@ -14,18 +13,18 @@ use Rattle.std.specs.declared.result.Result.{Result}
 use Rattle.std.specs.declared.result.Result.the-variants.{Ok, Err}
 use Rattle.std.proofs.shelf.Lists.{take-append-drop}
 use Rattle.std.proofs.shelf.Elements.{all-take, all-drop}
-use Rattle.std.proofs.shelf.Tests.{cases-bool, leb-true, eqb-true, cond-true, cond-false}
+use Rattle.std.proofs.shelf.Tests.{leb-true, eqb-true, cond-true}
 use Rattle.terms.specs.declared.refusal.Refusal.{Refusal}
 use Rattle.terms.specs.declared.refusal.Refusal.the-variants.{ProfileLength, OtherMark, ProfileHorizon}
 use Rattle.loads.specs.declared.kind.LoadFault.{LoadFault}
-use Rattle.loads.specs.declared.kind.LoadFault.the-variants.{Short, NoImage as Garbled}
+use Rattle.loads.specs.declared.kind.LoadFault.the-variants.{Short}
 use Rattle.loads.specs.Digits.{to-bytes, from-bytes}
 use Rattle.loads.specs.Formats.{Format, Bytes, Counted, Lawful, read-front, or-no-image}
 use Rattle.loads.proofs.Fronts.{take-both}
 use Rattle.loads.proofs.Places.{to-from-bytes, from-bytes-below}
-use Rattle.profile.specs.Rows.{Row, Profile, row-fault, rows-fault, or-fault, lawful-horizon, profile-fault, unless}
-use Rattle.profile.specs.Wire.{row-bytes, row-size, header-bytes, profile-bytes, Header, read-header, with-load, row-at, checked, next-row, prepend, then-rows, read-rows, as-profile, then-body, read-profile}
-use Rattle.profile.specs.Laws.{Writable, Fits-bytes, Accepted, Accepts-writings}
+use Rattle.profile.specs.Rows.{Row, row-fault, rows-fault, or-fault, lawful-horizon, unless}
+use Rattle.profile.specs.Wire.{row-bytes, row-size, Header, read-header, with-load, row-at, checked, next-row, then-rows, read-rows, as-profile, then-body}
+use Rattle.profile.specs.Laws.{Writable, Accepted, Accepts-writings}
 use Rattle.profile.proofs.Steps.{ok-not-err, prepend-ok, rows-many}
 
 -- a test that led to Ok was true

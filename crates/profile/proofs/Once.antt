@@ -1,9 +1,9 @@
 -- Rows without fault are told by the load at every minute.
 use mathlib.Core.Path.{_≡_, refl, ap, ap₂, sym, subst, _∙_}
-use mathlib.Core.Bool.{Bool, true, false, cond, _&&_, _||_}
-use mathlib.Core.Logic.{_⊎_, inl, inr}
+use mathlib.Core.Bool.{Bool, true, false, cond, _||_}
+use mathlib.Core.Logic.{inl, inr}
 use mathlib.Core.List.{List, [], _∷_}
-use Prim.Native.Nat.{ℕ, zero, suc, _+_, _≤_, _<_}
+use Prim.Native.Nat.{ℕ, zero, suc, _≤_, _<_}
 use native.Mathlib.Omega.{arith}
 use lib.Dec.{leb, ltb, eqb}
 use lib.ListN.{length, replicate}
@@ -13,11 +13,11 @@ use Rattle.std.proofs.shelf.Tests.{cases-bool, cases-order, cases-lt, both-ways
 use Rattle.terms.specs.declared.refusal.Refusal.{Refusal}
 use Rattle.terms.specs.declared.refusal.Refusal.the-variants.{ProfileHorizon, RowPlace, RowLoad}
 use Rattle.loads.specs.Counts.{alike, empty}
-use Rattle.loads.specs.Formats.{Format, Bytes, Lawful, zeros}
+use Rattle.loads.specs.Formats.{Format, Lawful, zeros}
 use Rattle.loads.proofs.Means.{alike-is}
-use Rattle.profile.specs.Rows.{Row, Profile, end-of, in-row, load-at, end-before, misplaced, goes-on, misloaded, row-fault, or-fault, rows-fault, lawful-horizon, profile-fault}
+use Rattle.profile.specs.Rows.{Row, Profile, end-of, load-at, end-before, misplaced, goes-on, misloaded, row-fault, or-fault, rows-fault, lawful-horizon, profile-fault}
 use Rattle.profile.specs.Wire.{profile-bytes}
-use Rattle.profile.specs.Laws.{Same-load, One-writing}
+use Rattle.profile.specs.Laws.{One-writing}
 use Rattle.profile.proofs.Accepts.{accepts-writings}
 
 -- what a row without fault is

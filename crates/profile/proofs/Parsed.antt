@@ -1,29 +1,26 @@
 -- Headers and rows as the code reads them: number by number.
-use mathlib.Core.Path.{_≡_, refl, ap, ap₂, sym, _∙_}
-use mathlib.Core.Bool.{Bool, true, false, cond, _&&_, _||_}
-use mathlib.Core.List.{List, [], _∷_}
+use mathlib.Core.Path.{_≡_, ap, ap₂, sym, _∙_}
+use mathlib.Core.Bool.{Bool, cond, _||_}
+use mathlib.Core.List.{List}
 use mathlib.Core.Logic.{inl, inr}
-use Prim.Native.Nat.{ℕ, zero, suc, _+_, _-_, _*_, _^_, _≤_, _<_, min}
+use Prim.Native.Nat.{ℕ, _+_, _*_, _^_, _≤_, _<_}
 use native.Mathlib.Omega.{arith}
-use lib.Dec.{leb, eqb}
-use lib.ListN.{length, take, drop, getD, replicate, length-drop}
+use lib.ListN.{length, take, drop, getD, length-drop}
 use Rattle.std.specs.declared.option.Option.{Option}
-use Rattle.std.specs.declared.option.Option.the-variants.{Some, None}
 use Rattle.std.specs.declared.result.Result.{Result}
 use Rattle.std.specs.declared.result.Result.the-variants.{Ok, Err}
 use Rattle.std.proofs.shelf.Lists.{getD-drop, drop-all}
 use Rattle.std.proofs.shelf.Tests.{cases-lt, le-leb, eq-eqb, cond-true}
-use Rattle.terms.specs.declared.refusal.Refusal.{Refusal}
 use Rattle.terms.specs.declared.refusal.Refusal.the-variants.{ProfileHorizon}
 use Rattle.loads.specs.declared.kind.LoadFault.{LoadFault}
-use Rattle.loads.specs.Counts.{alike, empty}
+use Rattle.loads.specs.Counts.{alike}
 use Rattle.loads.specs.Digits.{from-bytes}
 use Rattle.loads.specs.Formats.{Format, told, zeros, read-front}
 use Rattle.loads.proofs.Fronts.{front-4}
 use Rattle.loads.proofs.Means.{alike-zeros}
 use Rattle.loads.proofs.Places.{word-4}
 use Rattle.profile.specs.Rows.{Row, goes-on, misloaded, lawful-horizon}
-use Rattle.profile.specs.Wire.{Header, read-header, with-load, row-at, row-size}
+use Rattle.profile.specs.Wire.{read-header, with-load, row-at}
 
 -- the number in the four bytes from k on
 pub word-at : (k : ℕ) (bs : List ℕ) → k + 4 ≤ length bs

@@ -1,19 +1,16 @@
 -- Bytes put into a buffer part by part, and at a place.
 use mathlib.Core.Path.{_≡_, refl, ap, ap₂, sym, _∙_}
-use mathlib.Core.Bool.{Bool, true, false, cond}
 use mathlib.Core.List.{List, [], _∷_, _++_}
 use mathlib.Core.Logic.{inl, inr}
-use Prim.Native.Nat.{ℕ, suc, _+_, _-_, _≤_, _<_}
+use Prim.Native.Nat.{ℕ, _+_, _-_, _≤_, _<_}
 use native.Mathlib.Omega.{arith}
-use lib.Dec.{leb}
 use lib.ListN.{length, take, drop, set, length-append, length-take, length-drop}
 use borrow.Rule.Slice.PartMut.{putMid}
-use Rattle.std.specs.declared.option.Option.{Option}
 use Rattle.std.specs.declared.option.Option.the-variants.{Some, None}
 use Rattle.std.proofs.shelf.Lists.{take-rest, drop-drop, drop-all, append-nil, append-assoc, take-append-drop, take-at, drop-at}
 use Rattle.std.proofs.shelf.Tests.{cases-lt, le-leb, lt-leb, cond-true, cond-false}
 use Rattle.loads.specs.Formats.{put-front}
-use Rattle.loads.proofs.Fronts.{put-long, put-short, length-put, joined-put}
+use Rattle.loads.proofs.Fronts.{put-long, put-short, joined-put}
 use Rattle.profile.specs.Wire.{put-at, place-after}
 
 -- the first byte set is one byte put

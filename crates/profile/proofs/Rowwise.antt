@@ -1,25 +1,23 @@
 -- Rows checked and written one by one, and the room that they want.
-use mathlib.Core.Path.{_≡_, refl, ap, ap₂, sym, subst, _∙_}
-use mathlib.Core.Bool.{Bool, true, false, cond}
+use mathlib.Core.Path.{_≡_, ap, ap₂, sym, subst, _∙_}
 use mathlib.Core.List.{List, [], _∷_, _++_, map}
 use mathlib.Core.Logic.{_⊎_, inl, inr}
 use Prim.Native.Nat.{ℕ, zero, suc, _+_, _-_, _*_, _/_, _^_, _≤_, _<_, min}
 use native.Mathlib.Omega.{arith}
-use native.Mathlib.Nat.{mul-comm, add-mul, mul-le-mul-right, mul-le-mul, div-eq-of-lt, mul-zero}
+use native.Mathlib.Nat.{mul-comm, add-mul, mul-le-mul-right, div-eq-of-lt, mul-zero}
 use lib.Dec.{leb}
 use lib.ListN.{length, take, drop, getD, length-append, length-take, length-drop, length-map}
 use Rattle.std.specs.shelf.Lists.{All, joined}
 use Rattle.std.specs.declared.option.Option.{Option}
 use Rattle.std.specs.declared.option.Option.the-variants.{Some, None}
 use Rattle.std.proofs.shelf.Bits.{le-div, div-add-mod'}
-use Rattle.std.proofs.shelf.Lists.{at-drop-more, joined-more, map-more, take-append-drop, append-assoc}
-use Rattle.std.proofs.shelf.Tests.{cases-lt, leb-true, le-leb, leb-false, lt-leb, cond-true, cond-false}
+use Rattle.std.proofs.shelf.Lists.{at-drop-more, joined-more, map-more, take-append-drop}
+use Rattle.std.proofs.shelf.Tests.{cases-lt, leb-true, le-leb, lt-leb, cond-true, cond-false}
 use Rattle.std.proofs.shelf.Ways.{same-from-decides}
-use Rattle.terms.specs.declared.refusal.Refusal.{Refusal}
 use Rattle.loads.specs.Formats.{Format, Counted, Lawful, told}
 use Rattle.loads.proofs.Means.{decides-leb}
-use Rattle.profile.specs.Rows.{Row, end-before, end-of, row-fault, or-fault, rows-fault}
-use Rattle.profile.specs.Wire.{row-bytes, row-size, profile-size, put-at, place-after}
+use Rattle.profile.specs.Rows.{Row, end-before, row-fault, or-fault, rows-fault}
+use Rattle.profile.specs.Wire.{row-bytes, row-size, put-at, place-after}
 use Rattle.profile.proofs.Once.{cut}
 use Rattle.profile.proofs.Putting.{put-at-long, put-more}
 use Rattle.profile.proofs.Written.{length-rows, length-row}

@@ -1,6 +1,6 @@
 -- Rows without fault are the longest runs of the load that they tell.
-use mathlib.Core.Path.{_≡_, refl, ap, sym, _∙_}
-use mathlib.Core.Bool.{Bool, true, false}
+use mathlib.Core.Path.{_≡_, refl, sym, _∙_}
+use mathlib.Core.Bool.{false}
 use mathlib.Core.Logic.{inl, inr}
 use mathlib.Core.List.{List, [], _∷_}
 use Prim.Native.Nat.{ℕ, _+_, _≤_, _<_}
@@ -17,7 +17,7 @@ use Rattle.loads.proofs.Means.{alike-is}
 use Rattle.profile.specs.Rows.{Row, end-of, load-at, end-before, goes-on, rows-fault}
 use Rattle.profile.specs.Laws.{Run, In-turn, Rows-are-runs}
 use Rattle.profile.proofs.Accepts.{accepts-writings}
-use Rattle.profile.proofs.Once.{Good, cut, at-row, past-row, early, no-load, next-differs, rows-free}
+use Rattle.profile.proofs.Once.{cut, at-row, past-row, early, no-load, next-differs, rows-free}
 
 all-later : (h : ℕ) (p : Row) (rs : List Row) → rows-fault h (Some p) rs ≡ None → All (λ s. end-of p ≤ s .offset) rs
 all-later h p [] e = tt

@@ -1,17 +1,15 @@
 -- What was written reads back.
 use mathlib.Core.Path.{_≡_, refl, ap, ap₂, sym, _∙_}
-use mathlib.Core.Bool.{Bool, true, false, cond}
+use mathlib.Core.Bool.{cond}
 use mathlib.Core.Logic.{inl, inr}
 use mathlib.Core.List.{List, [], _∷_, _++_}
-use Prim.Native.Nat.{ℕ, suc, _+_, _*_, _^_, _≤_, _<_}
+use Prim.Native.Nat.{ℕ, suc, _+_, _*_, _≤_}
 use native.Mathlib.Omega.{arith}
 use native.Mathlib.Nat.{add-mul}
-use lib.Dec.{leb, eqb}
-use lib.ListN.{length, take, drop, getD, length-append}
+use lib.ListN.{length, take, drop, length-append}
 use Rattle.std.specs.shelf.Lists.{All, joined}
 use Rattle.std.specs.declared.option.Option.{Option}
 use Rattle.std.specs.declared.option.Option.the-variants.{Some, None}
-use Rattle.std.specs.declared.result.Result.{Result}
 use Rattle.std.specs.declared.result.Result.the-variants.{Ok, Err}
 use Rattle.std.proofs.shelf.Lists.{take-at, drop-at, append-assoc}
 use Rattle.std.proofs.shelf.Tests.{cases-bool, le-leb, eq-eqb, cond-true, cond-false}
@@ -21,8 +19,8 @@ use Rattle.loads.specs.Digits.{to-bytes, from-bytes}
 use Rattle.loads.specs.Formats.{Format, Counted, Lawful, read-front, or-no-image}
 use Rattle.loads.proofs.Fronts.{read-long}
 use Rattle.loads.proofs.Places.{length-to-bytes, from-to-bytes}
-use Rattle.profile.specs.Rows.{Row, Profile, row-fault, rows-fault, or-fault, lawful-horizon, profile-fault, unless}
-use Rattle.profile.specs.Wire.{row-bytes, row-size, header-bytes, profile-bytes, profile-size, Header, read-header, with-load, row-at, checked, next-row, prepend, then-rows, read-rows, as-profile, then-body, read-profile}
+use Rattle.profile.specs.Rows.{Row, Profile, row-fault, rows-fault, or-fault, lawful-horizon, unless}
+use Rattle.profile.specs.Wire.{row-bytes, row-size, header-bytes, profile-bytes, profile-size, read-header, with-load, row-at, checked, prepend, then-rows, read-rows, as-profile, then-body}
 use Rattle.profile.specs.Laws.{Writable, Fits-bytes, Reads-back}
 
 pub prepend-unless : (o : Option Refusal) (r : Row) (rs : List Row) → prepend r (unless o rs) ≡ unless o (r ∷ rs)

@@ -1,4 +1,4 @@
-use mathlib.Core.Path.{_≡_, sym, _∙_}
+use mathlib.Core.Path.{sym, _∙_}
 use Rattle.std.proofs.shelf.Tests.{le-leb, lt-leb}
 use Rattle.loads.proofs.Fronts.{put-word, put-word-short}
 use Rattle.loads.proofs.Places.{bytes-4}

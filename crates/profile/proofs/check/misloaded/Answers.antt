@@ -1,4 +1,4 @@
-use mathlib.Core.Path.{_≡_, refl, _∙_}
+use mathlib.Core.Path.{refl, _∙_}
 use Rattle.std.specs.Options.{mapped}
 use Rattle.loads.proofs.Joins.{full}
 use Rattle.profile.specs.Views.{row-of}

@@ -1,13 +1,13 @@
-use mathlib.Core.Path.{_≡_, refl, ap, ap₂, sym, _∙_}
-use Prim.Native.Nat.{_+_, _-_, _<_}
+use mathlib.Core.Path.{_≡_, ap, ap₂, sym, _∙_}
+use Prim.Native.Nat.{_-_, _<_}
 use native.Mathlib.Omega.{arith}
-use lib.ListN.{length, drop}
+use lib.ListN.{length}
 use Rattle.std.specs.declared.option.Option.the-variants.{Some, None}
 use Rattle.std.specs.Results.{errPart}
 use Rattle.std.proofs.shelf.Results.{err-from-errBy}
-use Rattle.std.proofs.shelf.Tests.{eqb-true, eqb-false, cases-lt}
+use Rattle.std.proofs.shelf.Tests.{eqb-true, eqb-false}
 use Rattle.profile.specs.Views.{row-of, header-of}
-use Rattle.profile.specs.Wire.{read-rows, prepend}
+use Rattle.profile.specs.Wire.{read-rows}
 use Rattle.profile.proofs.Steps.{rows-more, rows-stop, rows-left, rows-end, err-prepend, read-refused, read-passed}
 use Rattle.profile.proofs.read.check.Needs as need
 

@@ -1,12 +1,12 @@
-use mathlib.Core.Path.{_≡_, refl, ap, sym, _∙_}
+use mathlib.Core.Path.{refl, ap, sym, _∙_}
 use mathlib.Core.List.{map}
 use lib.ListN.{drop}
 use Prim.Native.Nat.{_+_}
-use Rattle.std.specs.declared.option.Option.the-variants.{Some, None}
+use Rattle.std.specs.declared.option.Option.the-variants.{Some}
 use Rattle.std.specs.Options.{mapped}
 use Rattle.std.proofs.shelf.Lists.{drop-all}
 use Rattle.std.proofs.shelf.Tests.{cond-true}
-use Rattle.profile.specs.Rows.{row-fault, or-fault, rows-fault}
+use Rattle.profile.specs.Rows.{or-fault, rows-fault}
 use Rattle.profile.specs.Views.{row-of}
 use Rattle.profile.proofs.Rowwise.{fault-more}
 use Rattle.profile.proofs.write.profile_fault.Needs as need

@@ -1,6 +1,5 @@
-use mathlib.Core.Path.{_≡_, ap, ap₂, _∙_}
+use mathlib.Core.Path.{ap₂, _∙_}
 use mathlib.Core.List.{_++_}
-use Rattle.std.specs.Of.Vec.{vec-items}
 use Rattle.archive.specs.Reports.{total-text}
 use Rattle.archive.proofs.Drafts.{totals-is}
 use Rattle.archive.proofs.report.Draft.finish.Needs as need

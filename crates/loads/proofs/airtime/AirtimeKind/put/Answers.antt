@@ -1,4 +1,4 @@
-use mathlib.Core.Path.{_≡_, sym, ap, _∙_}
+use mathlib.Core.Path.{sym, ap, _∙_}
 use Rattle.loads.specs.Digits.{to-bytes}
 use Rattle.loads.specs.Formats.{put-front}
 use Rattle.loads.proofs.Places.{number-one}

@@ -1,4 +1,4 @@
-use mathlib.Core.Path.{_≡_, refl, sym, ap, _∙_}
+use mathlib.Core.Path.{refl, ap, _∙_}
 use Rattle.loads.proofs.Joins.{joined-add, full}
 use Rattle.loads.proofs.pair.PairKind.add.Needs as need
 use Rattle.std.specs.Options.{mapped}

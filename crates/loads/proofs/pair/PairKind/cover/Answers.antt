@@ -1,4 +1,3 @@
-use mathlib.Core.Path.{_≡_, refl, sym, ap, _∙_}
 use Rattle.loads.proofs.Joins.{joined-each, full}
 use Rattle.loads.proofs.pair.PairKind.cover.Needs as need
 use Prim.Native.Nat.{max}

@@ -1,4 +1,4 @@
-use mathlib.Core.Path.{_≡_, refl, sym, ap, _∙_}
+use mathlib.Core.Path.{refl, _∙_}
 use Rattle.loads.proofs.Joins.{joined-fits, full}
 use Rattle.loads.proofs.pair.PairKind.fits.Needs as need
 

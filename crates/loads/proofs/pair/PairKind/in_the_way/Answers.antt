@@ -1,4 +1,4 @@
-use mathlib.Core.Path.{_≡_, refl, sym, ap, _∙_}
+use mathlib.Core.Path.{refl, _∙_}
 use Rattle.loads.proofs.Joins.{joined-way, full}
 use Rattle.loads.proofs.pair.PairKind.in_the_way.Needs as need
 

@@ -1,10 +1,10 @@
-use mathlib.Core.Path.{_≡_, refl, sym, ap, subst, _∙_}
+use mathlib.Core.Path.{_≡_, sym, ap, _∙_}
 use native.Mathlib.Omega.{arith}
-use Prim.Native.Nat.{_+_, _-_, _≤_, _<_}
+use Prim.Native.Nat.{_+_, _≤_, _<_}
 use mathlib.Core.List.{_++_}
 use lib.ListN.{length, length-append}
 use Rattle.std.proofs.shelf.Tests.{le-leb, lt-leb}
-use Rattle.loads.specs.Formats.{put-front, pair-format}
+use Rattle.loads.specs.Formats.{put-front}
 use Rattle.loads.proofs.Fronts.{joined-put, put-short, length-put, fits-rest}
 use Rattle.loads.proofs.Lawfuls.{joined-image}
 use Rattle.loads.proofs.pair.PairKind.put.Needs as need

@@ -1,4 +1,4 @@
-use mathlib.Core.Path.{_≡_, refl, _∙_}
+use mathlib.Core.Path.{refl, _∙_}
 use Rattle.loads.proofs.Joins.{joined-same, full}
 use Rattle.loads.proofs.pair.PairKind.same.Needs as need
 
