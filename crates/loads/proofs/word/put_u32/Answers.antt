@@ -13,5 +13,5 @@ returns-then-buffer-lt4 c = record {
 pub returns : goal.returns
 returns c = record {
   fits = sym (le-leb 4 _ c.if-buffer-lt4.false);
-  after = put_word 4 c.args.number _ _ (c.copy-from-slice.ensures.after ∙ (c.to-be-bytes.ensures ∙ bytes_4 c.args.number)) c.if-buffer-lt4.false;
+  after = put_word 4 c.args.number _ _ (c.copy_from_slice.ensures.after ∙ (c.to_be_bytes.ensures ∙ bytes_4 c.args.number)) c.if-buffer-lt4.false;
 }

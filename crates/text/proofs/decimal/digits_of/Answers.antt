@@ -8,8 +8,8 @@ loop-rest-init c =
     let none = written_none c.args.room.now c.args.n c.told-room (search rules) in
     (none.0, omega arith, none.1, c.told-room, omega arith)
 
-pub overflow-sub-start-in-loop-rest : goal.overflow-sub-start-in-loop-rest
-overflow-sub-start-in-loop-rest c =
+pub overflow_sub-start-in-loop-rest : goal.overflow_sub-start-in-loop-rest
+overflow_sub-start-in-loop-rest c =
     let fits : c.args.n < 2 ^ 64 = search rules in
     (room_more c.loop-rest.start c.loop-rest.rest c.loop-rest-test.true (omega arith) c.loop-rest.invariant.2).0
 

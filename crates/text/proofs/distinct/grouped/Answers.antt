@@ -10,11 +10,11 @@ pub returns : goal.returns
 returns c =
     let items = vec_items c.args.items in
     let heap = heap_items c.from.result in
-    let sorted = vec_items c.into-sorted-vec.result in
+    let sorted = vec_items c.into_sorted_vec.result in
     let order = vectors nat_cmp_total in
-    let shuffled = IsPermutation-trans items heap sorted c.from.ensures.1 c.into-sorted-vec.ensures.permutation in
+    let shuffled = IsPermutation-trans items heap sorted c.from.ensures.1 c.into_sorted_vec.ensures.permutation in
     record {
       shuffled = shuffled;
-      together = grouped_from_ascends vec_items sorted (c.into-sorted-vec.ensures.sorted order (c.from.ensures.2 order));
+      together = grouped_from_ascends vec_items sorted (c.into_sorted_vec.ensures.sorted order (c.from.ensures.2 order));
       count = distinct_shuffled vec_items items sorted shuffled;
     }

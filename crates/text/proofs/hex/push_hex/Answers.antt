@@ -7,19 +7,19 @@ pub loop-byte-preserved : goal.loop-byte-preserved
 loop-byte-preserved c =
     let bytes = c.args.bytes.now in
     let i = c.loop-byte.byte-index in
-    let ds = c.digits-of.result in (
-      ap (λ l. l ++ hex_text (drop (i + 1) bytes)) c.push-reserved-in-loop-byte.ensures.items
-          ∙ ap (λ l. (l ++ (get_or ds 1 0 ∷ [])) ++ hex_text (drop (i + 1) bytes)) c.push-reserved.ensures.items
-          ∙ text_more bytes ds (vec_items c.loop-byte.out) i c.loop-byte-test.true c.digits-of.ensures
+    let ds = c.digits_of.result in (
+      ap (λ l. l ++ hex_text (drop (i + 1) bytes)) c.push_reserved-in-loop-byte.ensures.items
+          ∙ ap (λ l. (l ++ (get_or ds 1 0 ∷ [])) ++ hex_text (drop (i + 1) bytes)) c.push_reserved.ensures.items
+          ∙ text_more bytes ds (vec_items c.loop-byte.out) i c.loop-byte-test.true c.digits_of.ensures
           ∙ c.loop-byte.invariant.0,
       omega arith,
     )
 
-pub returns-in-err-count : goal.returns-in-err-count
-returns-in-err-count c = record { items = search rules; refuses = search rules; law = hex_law }
+pub returns-in_err-count : goal.returns-in_err-count
+returns-in_err-count c = record { items = search rules; refuses = search rules; law = hex_law }
 
-pub returns-in-err-reserve : goal.returns-in-err-reserve
-returns-in-err-reserve c = record { items = search rules; refuses = search rules; law = hex_law }
+pub returns-in_err-reserve : goal.returns-in_err-reserve
+returns-in_err-reserve c = record { items = search rules; refuses = search rules; law = hex_law }
 
 pub returns : goal.returns
 returns c =

@@ -6,6 +6,6 @@ use Rattle.loads.proofs.airtime.AirtimeKind.put.Goals as goal
 
 pub returns : goal.returns
 returns c = record {
-  fits = c.put-u32.ensures.fits;
-  after = c.put-u32.ensures.after ∙ ap (λ w. put_front (to_bytes 4 w) c.args.buffer.now) (sym (number_one 1000001 c.args.load.rate));
+  fits = c.put_u32.ensures.fits;
+  after = c.put_u32.ensures.after ∙ ap (λ w. put_front (to_bytes 4 w) c.args.buffer.now) (sym (number_one 1000001 c.args.load.rate));
 }

@@ -15,8 +15,8 @@ pub returns : goal.returns
 returns c = record {
   fits = sym (le-leb 8 _ c.if-buffer-lt8.false);
   after = put_word 8 (number 2 (digits 2 64 c.args.load.word)) _ _
-      (c.copy-from-slice.ensures.after
-      ∙ (c.to-be-bytes.ensures
+      (c.copy_from_slice.ensures.after
+      ∙ (c.to_be_bytes.ensures
       ∙ (bytes_8 c.args.load.word ∙ ap (to_bytes 8) (sym (number_digits 2 64 c.args.load.word (omega arith) c.args.load.bound)))))
       c.if-buffer-lt8.false;
 }

@@ -8,6 +8,6 @@ use Rattle.loads.proofs.crews.CrewsKind.read.Goals as goal
 pub returns : goal.returns
 returns c =
     let long : 8 ≤ length c.args.bytes.now = search rules in
-    sym (cond-true _ _ _ (lt-ltb _ _ c.from-be-bytes-word.type-inv))
-    ∙ read_word 2 1 64 8 c.from-be-bytes-word.result c.args.bytes.now long
-    (c.from-be-bytes-word.ensures ∙ (word_8 _ _ _ _ _ _ _ _ ∙ ap from_bytes (front_8 c.args.bytes.now long)))
+    sym (cond-true _ _ _ (lt-ltb _ _ c.from_be_bytes-word.type_inv))
+    ∙ read_word 2 1 64 8 c.from_be_bytes-word.result c.args.bytes.now long
+    (c.from_be_bytes-word.ensures ∙ (word_8 _ _ _ _ _ _ _ _ ∙ ap from_bytes (front_8 c.args.bytes.now long)))

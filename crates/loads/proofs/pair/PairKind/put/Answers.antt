@@ -13,7 +13,7 @@ returns-then-len-first g c =
     let p = g.met.A.Kind.counted c.args.load.first in
     let x = g.met.A.Kind.lawful.sized _ p in
     let y = g.met.B.Kind.lawful.sized _ (g.met.B.Kind.counted c.args.load.second) in
-    let e = c.image-len-first.ensures in
+    let e = c.image_len-first.ensures in
     let short : length c.args.buffer.now < g.A.Kind.format.size + g.B.Kind.format.size = elim c.then-len-first.branch [ then-len-first-via-then-len-first w ↦ omega arith | then-len-first-via-else-len-first+then-len-first-2 w ↦ omega arith ] in
     record {
       fits = sym (lt-leb _ _ short);
@@ -25,14 +25,14 @@ pub returns-then-put : goal.returns-then-put
 returns-then-put g c =
     let a = g.met.A.Kind.lawful.some_byte in
     let b = g.met.B.Kind.lawful.some_byte in
-    let at : c.image-len-first.result ≡ g.A.Kind.format.size = omega arith in
+    let at : c.image_len-first.result ≡ g.A.Kind.format.size = omega arith in
     let whole : g.A.Kind.format.size + g.B.Kind.format.size ≤ length c.args.buffer.now = omega arith in
-    let long : c.image-len-first.result + g.B.Kind.format.size ≤ length c.args.buffer.now = omega arith in
+    let long : c.image_len-first.result + g.B.Kind.format.size ≤ length c.args.buffer.now = omega arith in
     let p = g.met.A.Kind.counted c.args.load.first in
     let x = g.met.A.Kind.lawful.sized _ p ∙ sym at in
     let y = g.met.B.Kind.lawful.sized _ (g.met.B.Kind.counted c.args.load.second) in
     let e = c.put.ensures.after in
-    let t = fits_rest c.args.buffer.now c.put.new.buffer c.image-len-first.result g.B.Kind.format.size (length_put _ _ _ e) long in
+    let t = fits_rest c.args.buffer.now c.put.new.buffer c.image_len-first.result g.B.Kind.format.size (length_put _ _ _ e) long in
     record {
       fits = c.put-then-put.ensures.fits ∙ t ∙ sym (le-leb _ _ whole);
       after = joined_put _ _ c.args.buffer.now _ _ _ g.B.Kind.format.size x y long e c.put-then-put.ensures.after
