@@ -1,11 +1,11 @@
 -- In a list that rises, equal items stand together.
 use Rattle.std.proofs.Common.{◌≡◌, ℕ, suc, ◌+◌, ◌-◌, ◌<◌, Bool, true, false, cond, ◌||◌, List, [], ◌∷◌, map, length, get_or, take, drop, Decides, Ordering, Less, Equal, Greater, sym, refl, ap, ◌∙◌, subst, ⊎_elim, arith}
-use Rattle.std.specs.Cmp.{nat_cmp_total}
-use Rattle.std.specs.Cmp.Lexicographic.{slice_cmp, bytes_decides, lists_total}
+use Rattle.std.proofs.lemmas.Cmp.{nat_list_cmp_total}
+use Rattle.std.specs.Cmp.Lexicographic.{slice_cmp, bytes_decides}
 use Rattle.std.specs.Ordering.{is_eq, is_lt, ordering_index, nat_cmp}
 use Rattle.std.specs.List.Sorted.{IsSortedWithin, IsNonDecreasingBy}
 use Rattle.std.specs.Str.{bytes_eq}
-use Rattle.std.proofs.StringKeys.Lists.{tied-text}
+use Rattle.std.proofs.lemmas.Map.Text.{is_eq-slice_cmp}
 use Rattle.std.proofs.lemmas.List.{take_rest}
 use Rattle.std.proofs.lemmas.Bool.Decides.{same_from_decides}
 use Rattle.std.proofs.lemmas.Slice.Eq.{bytes_eq-Decides}
@@ -24,10 +24,10 @@ placed_tied Equal e = refl
 placed_tied Greater e = absurd (omega arith)
 
 placed_self : (x : List ℕ) → ordering_index (slice_cmp nat_cmp x x) ≡ 1
-placed_self x = tied_placed (slice_cmp nat_cmp x x) (tied-text x x ∙ (bytes_decides x x).1 refl)
+placed_self x = tied_placed (slice_cmp nat_cmp x x) (is_eq-slice_cmp x x ∙ (bytes_decides x x).1 refl)
 
 placed_is : (x y : List ℕ) → ordering_index (slice_cmp nat_cmp x y) ≡ 1 → x ≡ y
-placed_is x y e = (bytes_decides x y).0 (sym (tied-text x y) ∙ placed_tied (slice_cmp nat_cmp x y) e)
+placed_is x y e = (bytes_decides x y).0 (sym (is_eq-slice_cmp x y) ∙ placed_tied (slice_cmp nat_cmp x y) e)
 
 first_tells : (a b : Bool) → (b ≡ true → a ≡ true) → a ≡ (a || b)
 first_tells true b h = refl
@@ -67,7 +67,7 @@ module _ {X : Type 0} (f : X → List ℕ) where
       (head_tells x xs up, grouped_from_climbs xs (λ z. IsNonDecreasingBy-drop (λ y. ordering_index (slice_cmp nat_cmp (f y) z)) 1 (x ∷ xs) (up z)))
 
   pub grouped_from_ascends : (xs : List X) → IsSortedWithin (λ x y. is_lt (slice_cmp nat_cmp (f x) (f y))) xs 0 (length xs) → Grouped (map f xs)
-  grouped_from_ascends xs up = grouped_from_climbs xs (λ z. searchable_from_sorted (lists_total nat_cmp_total) f xs z up)
+  grouped_from_ascends xs up = grouped_from_climbs xs (λ z. searchable_from_sorted nat_list_cmp_total f xs z up)
 
   -- the first item of a list
   pub first_none : (xs : List X) (x : List ℕ) → length xs < 1 → false ≡ starts_with x (map f xs)

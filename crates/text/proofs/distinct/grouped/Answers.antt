@@ -1,5 +1,3 @@
-use Rattle.std.specs.Cmp.{nat_cmp_total}
-use Rattle.std.specs.OwnedKeys.{vectors}
 use Rattle.std.proofs.Common.{vec_items, heap_items}
 use Rattle.std.proofs.lemmas.List.Sorted.{IsPermutation-trans}
 use Rattle.text.proofs.Climbs.{grouped_from_ascends}
@@ -11,10 +9,9 @@ returns c =
     let items = vec_items c.args.items in
     let heap = heap_items c.from.result in
     let sorted = vec_items c.into_sorted_vec.result in
-    let order = vectors nat_cmp_total in
     let shuffled = IsPermutation-trans items heap sorted c.from.ensures.1 c.into_sorted_vec.ensures.permutation in
     record {
       shuffled = shuffled;
-      together = grouped_from_ascends vec_items sorted (c.into_sorted_vec.ensures.sorted order (c.from.ensures.2 order));
+      together = grouped_from_ascends vec_items sorted (c.into_sorted_vec.ensures.sorted c.from.ensures.2);
       count = distinct_shuffled vec_items items sorted shuffled;
     }
