@@ -5,5 +5,5 @@ use Rattle.profile.proofs.check.after_row.Goals as goal
 
 pub returns : goal.returns
 returns g c =
-    c.rest-from.ensures
-    ∙ (ap (λ n. drop n c.args.bytes.now) c.row-len.ensures ∙ drop_told (row_size g.K.Kind.format) c.args.bytes.now (omega arith))
+    c.rest_from.ensures
+    ∙ (ap (λ n. drop n c.args.bytes.now) c.row_len.ensures ∙ drop_told (row_size g.K.Kind.format) c.args.bytes.now (omega arith))

@@ -26,6 +26,6 @@ returns g c =
       place = after_some 0 9 _ c.if-buffer-lt9.false;
       after = three_put (f.mark ∷ []) (to_bytes 4 c.args.header.horizon) (to_bytes 4 c.args.header.count) buffer _ _ _ 1 4 4
           refl (length_to_bytes 4 c.args.header.horizon) (length_to_bytes 4 c.args.header.count) (omega arith)
-          (set_front c.kind-mark.result buffer (omega arith) ∙ ap (λ m. put_front (m ∷ []) buffer) c.kind-mark.ensures)
-          c.put-u32.ensures.after c.put-u32-2.ensures.after;
+          (set_front c.kind_mark.result buffer (omega arith) ∙ ap (λ m. put_front (m ∷ []) buffer) c.kind_mark.ensures)
+          c.put_u32.ensures.after c.put_u32-2.ensures.after;
     }

@@ -6,15 +6,15 @@ use Rattle.profile.specs.Wire.{row_bytes, row_size}
 use Rattle.profile.proofs.Putting.{put_at_is, after_some, after_none}
 use Rattle.profile.proofs.put.put_row.Goals as goal
 
-pub returns-then-not-put-row-front : goal.returns-then-not-put-row-front
-returns-then-not-put-row-front g c =
+pub returns-then-not-put_row_front : goal.returns-then-not-put_row_front
+returns-then-not-put_row_front g c =
     let f = g.K.Kind.format in
     let l : length (take (length c.args.buffer.now - c.args.at) (drop c.args.at c.args.buffer.now)) ≡ length c.args.buffer.now - c.args.at
     = ap length (take_rest c.args.buffer.now c.args.at) ∙ length-drop c.args.at c.args.buffer.now in
-    let h = leb-false _ _ (sym c.if-not-put-row-front.ensures.fits) in
+    let h = leb-false _ _ (sym c.if-not-put_row_front.ensures.fits) in
     record {
       place = after_none c.args.at (row_size f) c.args.buffer.now (omega arith);
-      after = put_at_is c.args.at (row_bytes f (row_of g.K.Kind.counts c.args.row)) c.args.buffer.now _ c.if-buffer-at.false c.put-row-front.ensures.after;
+      after = put_at_is c.args.at (row_bytes f (row_of g.K.Kind.counts c.args.row)) c.args.buffer.now _ c.if-buffer-at.false c.put_row_front.ensures.after;
     }
 
 pub returns : goal.returns
@@ -22,9 +22,9 @@ returns g c =
     let f = g.K.Kind.format in
     let l : length (take (length c.args.buffer.now - c.args.at) (drop c.args.at c.args.buffer.now)) ≡ length c.args.buffer.now - c.args.at
     = ap length (take_rest c.args.buffer.now c.args.at) ∙ length-drop c.args.at c.args.buffer.now in
-    let h = leb-true _ _ (sym c.if-not-put-row-front.ensures.fits) in
-    let end : (c.args.at + 8) + c.image-len.result ≡ c.args.at + row_size f = omega (arith, c.image-len.ensures) in
+    let h = leb-true _ _ (sym c.if-not-put_row_front.ensures.fits) in
+    let end : (c.args.at + 8) + c.image_len.result ≡ c.args.at + row_size f = omega (arith, c.image_len.ensures) in
     record {
       place = ap Some end ∙ after_some c.args.at (row_size f) c.args.buffer.now (omega arith);
-      after = put_at_is c.args.at (row_bytes f (row_of g.K.Kind.counts c.args.row)) c.args.buffer.now _ c.if-buffer-at.false c.put-row-front.ensures.after;
+      after = put_at_is c.args.at (row_bytes f (row_of g.K.Kind.counts c.args.row)) c.args.buffer.now _ c.if-buffer-at.false c.put_row_front.ensures.after;
     }

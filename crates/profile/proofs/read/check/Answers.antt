@@ -9,37 +9,37 @@ use Rattle.profile.proofs.read.check.Goals as goal
 
 pub loop-init : goal.loop-init
 loop-init g c =
-    ap₂ (λ n bs. result_err (read_rows g.K.Kind.format c.in-ok-header.header.horizon None n bs))
+    ap₂ (λ n bs. result_err (read_rows g.K.Kind.format c.in_ok-header.header.horizon None n bs))
     (omega arith) (sym c.body-rest.ensures)
 
-pub returns-in-err-next-row : goal.returns-in-err-next-row
-returns-in-err-next-row g c =
+pub returns-in_err-next_row : goal.returns-in_err-next_row
+returns-in_err-next_row g c =
     let f = g.K.Kind.format in
-    let p = err_from_is_err_and c.from-residual-in-err-next-row.result c.from-residual-in-err-next-row.ensures.1 in
+    let p = err_from_is_err_and c.from_residual-in_err-next_row.result c.from_residual-in_err-next_row.ensures.1 in
     rw (p.1, p.2)
-    (read_refused f c.args.bytes.now (header_of c.in-ok-header.header) c.in-ok-header.ensures _
-    (c.loop.invariant ∙ ap result_err (rows_stop f c.in-ok-header.header.horizon _ _ _ _ (omega arith) c.in-err-next-row.ensures)))
+    (read_refused f c.args.bytes.now (header_of c.in_ok-header.header) c.in_ok-header.ensures _
+    (c.loop.invariant ∙ ap result_err (rows_stop f c.in_ok-header.header.horizon _ _ _ _ (omega arith) c.in_err-next_row.ensures)))
 
 pub loop-preserved : goal.loop-preserved
 loop-preserved g c =
     let f = g.K.Kind.format in
-    let h = c.in-ok-header.header.horizon in
-    let r = row_of g.K.Kind.counts c.in-ok-next-row.field-0 in
-    let n = c.in-ok-header.header.count - c.loop.counter in
+    let h = c.in_ok-header.header.horizon in
+    let r = row_of g.K.Kind.counts c.in_ok-next_row.field-0 in
+    let n = c.in_ok-header.header.count - c.loop.counter in
     c.loop.invariant
-    ∙ (ap result_err (rows_more f h n _ c.loop.rest.now r (omega arith) c.in-ok-next-row.ensures)
-    ∙ (err_prepend r _ ∙ ap₂ (λ m bs. result_err (read_rows f h (Some r) m bs)) (omega arith) (sym c.after-row-rest.ensures)))
+    ∙ (ap result_err (rows_more f h n _ c.loop.rest.now r (omega arith) c.in_ok-next_row.ensures)
+    ∙ (err_prepend r _ ∙ ap₂ (λ m bs. result_err (read_rows f h (Some r) m bs)) (omega arith) (sym c.after_row-rest.ensures)))
 
-pub returns-then-not-is-empty : goal.returns-then-not-is-empty
-returns-then-not-is-empty g c =
+pub returns-then-not-is_empty : goal.returns-then-not-is_empty
+returns-then-not-is_empty g c =
     let f = g.K.Kind.format in
-    let left : 0 < length c.loop.rest.now = omega (arith, eqb-false (length c.loop.rest.now) 0 (sym c.if-not-is-empty.ensures)) in
-    read_refused f c.args.bytes.now (header_of c.in-ok-header.header) c.in-ok-header.ensures _
-    (c.loop.invariant ∙ ap result_err (rows_left f c.in-ok-header.header.horizon (c.in-ok-header.header.count - c.loop.counter) _ c.loop.rest.now (omega arith) left))
+    let left : 0 < length c.loop.rest.now = omega (arith, eqb-false (length c.loop.rest.now) 0 (sym c.if-not-is_empty.ensures)) in
+    read_refused f c.args.bytes.now (header_of c.in_ok-header.header) c.in_ok-header.ensures _
+    (c.loop.invariant ∙ ap result_err (rows_left f c.in_ok-header.header.horizon (c.in_ok-header.header.count - c.loop.counter) _ c.loop.rest.now (omega arith) left))
 
 pub returns : goal.returns
 returns g c =
     let f = g.K.Kind.format in
-    let none : length c.loop.rest.now ≡ 0 = eqb-true (length c.loop.rest.now) 0 (sym c.if-not-is-empty.ensures) in
-    read_passed f c.args.bytes.now (header_of c.in-ok-header.header) c.in-ok-header.ensures
-    (c.loop.invariant ∙ ap result_err (rows_end f c.in-ok-header.header.horizon (c.in-ok-header.header.count - c.loop.counter) _ c.loop.rest.now (omega arith) none))
+    let none : length c.loop.rest.now ≡ 0 = eqb-true (length c.loop.rest.now) 0 (sym c.if-not-is_empty.ensures) in
+    read_passed f c.args.bytes.now (header_of c.in_ok-header.header) c.in_ok-header.ensures
+    (c.loop.invariant ∙ ap result_err (rows_end f c.in_ok-header.header.horizon (c.in_ok-header.header.count - c.loop.counter) _ c.loop.rest.now (omega arith) none))

@@ -18,26 +18,26 @@ kept_from : {L : Type 0} (counts : L → List ℕ) (read : Result Profile Refusa
 kept_from counts read h rs (Refused x) q k = absurd k
 kept_from counts read h rs OutOfMemory q k = (record { horizon = h; rows = rs }, q, k)
 
-pub returns-in-err-header : goal.returns-in-err-header
-returns-in-err-header g c =
-    let p = err_from_is_err_and c.from-residual.result c.from-residual.ensures.1 in
+pub returns-in_err-header : goal.returns-in_err-header
+returns-in_err-header g c =
+    let p = err_from_is_err_and c.from_residual.result c.from_residual.ensures.1 in
     record {
-      tells = rw (p.1, p.2) (header_refused _ _ c.in-err-header.ensures);
+      tells = rw (p.1, p.2) (header_refused _ _ c.in_err-header.ensures);
       accepts_writings = accepts_writings g.K.Kind.format g.met.K.Kind.lawful;
       rows_are_runs = rows_are_runs g.K.Kind.format g.met.K.Kind.lawful;
       one_writing = one_writing g.K.Kind.format g.met.K.Kind.lawful;
     }
 
-pub returns-in-err-rows : goal.returns-in-err-rows
-returns-in-err-rows g c =
+pub returns-in_err-rows : goal.returns-in_err-rows
+returns-in_err-rows g c =
     let f = g.K.Kind.format in
-    let h = c.in-ok-header.header.horizon in
-    let n = c.in-ok-header.header.count in
-    let q = header_passed f c.args.bytes.now (header_of c.in-ok-header.header) c.in-ok-header.ensures in
-    let rows = c.in-err-rows.ensures q.rows (ap (read_rows f h None n) c.body.ensures ∙ q.read) in
-    let p = err_from_is_err_and c.from-residual-in-err-rows.result c.from-residual-in-err-rows.ensures.1 in
+    let h = c.in_ok-header.header.horizon in
+    let n = c.in_ok-header.header.count in
+    let q = header_passed f c.args.bytes.now (header_of c.in_ok-header.header) c.in_ok-header.ensures in
+    let rows = c.in_err-rows.ensures q.rows (ap (read_rows f h None n) c.body.ensures ∙ q.read) in
+    let p = err_from_is_err_and c.from_residual-in_err-rows.result c.from_residual-in_err-rows.ensures.1 in
     record {
-      tells = rw (p.1, p.2) (kept_from g.K.Kind.counts _ h q.rows c.in-err-rows.field-0.0 q.is rows);
+      tells = rw (p.1, p.2) (kept_from g.K.Kind.counts _ h q.rows c.in_err-rows.field-0.0 q.is rows);
       accepts_writings = accepts_writings f g.met.K.Kind.lawful;
       rows_are_runs = rows_are_runs g.K.Kind.format g.met.K.Kind.lawful;
       one_writing = one_writing f g.met.K.Kind.lawful;
@@ -46,10 +46,10 @@ returns-in-err-rows g c =
 pub returns : goal.returns
 returns g c =
     let f = g.K.Kind.format in
-    let h = c.in-ok-header.header.horizon in
-    let n = c.in-ok-header.header.count in
-    let q = header_passed f c.args.bytes.now (header_of c.in-ok-header.header) c.in-ok-header.ensures in
-    let rows = c.in-ok-rows.ensures q.rows (ap (read_rows f h None n) c.body.ensures ∙ q.read) in
+    let h = c.in_ok-header.header.horizon in
+    let n = c.in_ok-header.header.count in
+    let q = header_passed f c.args.bytes.now (header_of c.in_ok-header.header) c.in_ok-header.ensures in
+    let rows = c.in_ok-rows.ensures q.rows (ap (read_rows f h None n) c.body.ensures ∙ q.read) in
     record {
       tells = q.is ∙ ap (λ rs. Ok (record { horizon = h; rows = rs })) (sym rows);
       accepts_writings = accepts_writings f g.met.K.Kind.lawful;
