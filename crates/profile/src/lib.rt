@@ -1,4 +1,5 @@
 //! The byte format of a load profile: reading it, writing it, and that each load has just one writing.
+#![tactic(auto)]
 
 mod check;
 pub mod put;

@@ -1,4 +1,5 @@
 //! What every layer shares: the refusals and their numbers, references, windows.
+#![tactic(auto)]
 
 pub mod reference;
 pub mod refusal;

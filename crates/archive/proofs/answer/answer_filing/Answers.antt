@@ -11,8 +11,8 @@ returns-in-Some c =
     let kind = c.args.filing.kind in
     let bytes = vec_items c.args.filing.bytes in
     let out = vec_items c.args.out.now in
-    let same = c.as-slice.ensures.value in
-    let promised = c.in-ok-refusal.ensures in
+    let same = c.as_slice.ensures.value in
+    let promised = c.in_ok-refusal.ensures in
     record {
       text =
           promised.text

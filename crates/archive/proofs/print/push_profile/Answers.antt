@@ -15,9 +15,9 @@ returns g c =
     let count = field (codes " ") (length (map view (vec_items rows))) in
     let printed = flat_map (row_text g.K.Kind.format) in
     let many : c.len.result ≡ length (map view (vec_items rows)) = c.len.ensures ∙ (rows.ok.0 ∙ sym (length-map (vec_items rows) view)) in
-    let one = c.in-ok-push-field.ensures ∙ ap (λ n. out ++ field (codes "ok ") n) c.from.ensures in
+    let one = c.in_ok-push_field.ensures ∙ ap (λ n. out ++ field (codes "ok ") n) c.from.ensures in
     let two = push_more out horizon count one
-    (c.in-ok-push-field-2.ensures ∙ ap (λ n. vec_items c.push-field.new.out ++ field (codes " ") n) many) in
-    let three = push_more out (horizon ++ count) feed two c.in-ok-extend-from-slice.ensures.items in
-    push_made c.push-rows.result out (horizon ++ count ++ feed) (printed (map view (vec_items rows))) _ _ three
-    (subst (λ rs. IfOk c.push-rows.result (λ _. vec_items c.push-rows.new.out ≡ vec_items c.extend-from-slice.new.self ++ printed (map view rs))) c.as-slice.ensures.value c.push-rows.ensures)
+    (c.in_ok-push_field-2.ensures ∙ ap (λ n. vec_items c.push_field.new.out ++ field (codes " ") n) many) in
+    let three = push_more out (horizon ++ count) feed two c.in_ok-extend_from_slice.ensures.items in
+    push_made c.push_rows.result out (horizon ++ count ++ feed) (printed (map view (vec_items rows))) _ _ three
+    (subst (λ rs. IfOk c.push_rows.result (λ _. vec_items c.push_rows.new.out ≡ vec_items c.extend_from_slice.new.self ++ printed (map view rs))) c.as_slice.ensures.value c.push_rows.ensures)

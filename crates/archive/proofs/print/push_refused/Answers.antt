@@ -7,6 +7,6 @@ use Rattle.archive.proofs.print.push_refused.Goals as goal
 pub returns : goal.returns
 returns c =
     let out = vec_items c.args.out.now in
-    push_last c.extend-from-slice.result out (field (codes "refused ") (number_of c.args.refusal)) feed _ _
-    (c.in-ok-push-field.ensures ∙ ap (λ n. out ++ field (codes "refused ") n) (c.from.ensures ∙ c.number.ensures))
-    c.extend-from-slice.ensures.items
+    push_last c.extend_from_slice.result out (field (codes "refused ") (number_of c.args.refusal)) feed _ _
+    (c.in_ok-push_field.ensures ∙ ap (λ n. out ++ field (codes "refused ") n) (c.from.ensures ∙ c.number.ensures))
+    c.extend_from_slice.ensures.items

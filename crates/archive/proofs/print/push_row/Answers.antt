@@ -13,10 +13,10 @@ returns g c =
     let out = vec_items c.args.out.now in
     let offset = decimal row.offset in
     let minutes = field (codes " ") row.length in
-    let one = c.in-ok-push-decimal.ensures.items ∙ ap (λ n. out ++ decimal n) c.from.ensures in
+    let one = c.in_ok-push_decimal.ensures.items ∙ ap (λ n. out ++ decimal n) c.from.ensures in
     let two = push_more out offset minutes one
-    (c.in-ok-push-field.ensures ∙ ap (λ n. vec_items c.push-decimal.new.out ++ field (codes " ") n) c.from-2.ensures) in
-    let three = push_more out (offset ++ minutes) (codes " ") two c.in-ok-extend-from-slice.ensures.items in
+    (c.in_ok-push_field.ensures ∙ ap (λ n. vec_items c.push_decimal.new.out ++ field (codes " ") n) c.from-2.ensures) in
+    let three = push_more out (offset ++ minutes) (codes " ") two c.in_ok-extend_from_slice.ensures.items in
     let four = push_more out (offset ++ minutes ++ codes " ") (hex_text (f.image cs)) three
-    (c.in-ok-push-hex.ensures.items ∙ ap (λ l. vec_items c.extend-from-slice.new.self ++ hex_text l) image) in
-    push_last c.extend-from-slice-2.result out (offset ++ minutes ++ codes " " ++ hex_text (f.image cs)) feed _ _ four c.extend-from-slice-2.ensures.items
+    (c.in_ok-push_hex.ensures.items ∙ ap (λ l. vec_items c.extend_from_slice.new.self ++ hex_text l) image) in
+    push_last c.extend_from_slice-2.result out (offset ++ minutes ++ codes " " ++ hex_text (f.image cs)) feed _ _ four c.extend_from_slice-2.ensures.items

@@ -13,19 +13,19 @@ add-requires c =
     let inv = c.loop-rest.invariant in
     (inv.0, inv.1, lines_fit inv.0 c.loop-rest.rest.now c.args.input.now inv.2 some (omega arith))
 
-pub returns-in-err-add : goal.returns-in-err-add
-returns-in-err-add c =
-    let p = err_from_is_err_and c.from-residual.result c.from-residual.ensures.1 in
+pub returns-in_err-add : goal.returns-in_err-add
+returns-in_err-add c =
+    let p = err_from_is_err_and c.from_residual.result c.from_residual.ensures.1 in
     record { text = rw p.1 tt; one_kind = one_kind; one_writing = one_writing_each }
 
 pub loop-rest-preserved : goal.loop-rest-preserved
 loop-rest-preserved c =
     let rest = c.loop-rest.rest.now in
-    let cut = c.next-line-line in
+    let cut = c.next_line-line in
     let some : 0 < length rest = omega (arith, eqb-false (length rest) 0 (sym c.loop-rest-test.ensures)) in
     let inv = c.loop-rest.invariant in (
       inv.0 ++ (finding (take (cut.result.line - 0) rest) ∷ []),
-      c.in-ok-add.ensures inv.0 inv.1,
+      c.in_ok-add.ensures inv.0 inv.1,
       line_more inv.0 (findings_of c.args.input.now) rest _ cut.result.line cut.result.next inv.2 some cut.ensures.line cut.ensures.next refl,
     )
 

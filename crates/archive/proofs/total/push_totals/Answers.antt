@@ -12,8 +12,8 @@ returns c =
     let refused = field (codes " refused ") t.refused in
     let bad = field (codes " bad ") t.bad in
     let distinct = field (codes " distinct ") t.distinct in
-    let two = push_more out total ok c.in-ok-push-field.ensures c.in-ok-push-field-2.ensures in
-    let three = push_more out (total ++ ok) refused two c.in-ok-push-field-3.ensures in
-    let four = push_more out (total ++ ok ++ refused) bad three c.in-ok-push-field-4.ensures in
-    let five = push_more out (total ++ ok ++ refused ++ bad) distinct four c.in-ok-push-field-5.ensures in
-    push_last c.extend-from-slice.result out (total ++ ok ++ refused ++ bad ++ distinct) feed _ _ five c.extend-from-slice.ensures.items
+    let two = push_more out total ok c.in_ok-push_field.ensures c.in_ok-push_field-2.ensures in
+    let three = push_more out (total ++ ok) refused two c.in_ok-push_field-3.ensures in
+    let four = push_more out (total ++ ok ++ refused) bad three c.in_ok-push_field-4.ensures in
+    let five = push_more out (total ++ ok ++ refused ++ bad) distinct four c.in_ok-push_field-5.ensures in
+    push_last c.extend_from_slice.result out (total ++ ok ++ refused ++ bad ++ distinct) feed _ _ five c.extend_from_slice.ensures.items
