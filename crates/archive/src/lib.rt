@@ -1,4 +1,5 @@
 //! What a wave archive files: lines with load profiles, answered one by one, and totals that count each profile once.
+#![tactic(auto)]
 
 pub mod answer;
 pub mod kind_name;

@@ -1,4 +1,5 @@
 //! The profile format in numbers: profiles written, read back and refused.
+#![tactic(auto)]
 
 #[cfg(test)]
 mod tests {

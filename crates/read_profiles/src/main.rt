@@ -1,4 +1,6 @@
 // Reads the lines of an archive on standard input, and prints the report on them.
+#![tactic(auto)]
+
 use archive::report::report;
 use std::io;
 use std::io::{Read, Write};
