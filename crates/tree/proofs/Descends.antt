@@ -1,9 +1,9 @@
 -- From a node to the subtree on a side, and back over a changed one.
-use Rattle.std.proofs.Common.{◌≡◌, ℕ, ◌+◌, ◌<◌, ◌≤◌, max, List, [], ◌∷◌, ◌++◌, length, get_or, sym, refl, ap, ◌∙◌, subst, arith}
+use Rattle.std.proofs.Common.{◌≡◌, ℕ, ◌+◌, ◌<◌, ◌≤◌, max, List, length, get_or, sym, ap, ◌∙◌, subst, arith}
 use Rattle.tree.specs.declared.node.Node.{Node}
 use Rattle.tree.specs.declared.side.Side.{Side}
 use Rattle.tree.specs.Changes.{Changed}
-use Rattle.tree.specs.Joins.{Frame, Ready, Joins}
+use Rattle.tree.specs.Joins.{Ready, Joins}
 use Rattle.tree.specs.Orders.{Order, Rising}
 use Rattle.tree.specs.Shape.{Shape, none, tall, sided, row, by_entry, In, Distinct, Balanced, Stands, stored_height}
 use Rattle.tree.specs.Sides.{near_of, far_of, between}

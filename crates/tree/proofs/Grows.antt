@@ -1,5 +1,5 @@
 -- The steps of an insertion.
-use Rattle.std.proofs.Common.{◌≡◌, ℕ, ◌+◌, ◌<◌, ◌≤◌, Bool, true, false, cond, ◌⊎◌, List, [], ◌∷◌, ◌++◌, length, get_or, Some, None, sym, refl, ap, ◌∙◌, subst, inl, inr, arith}
+use Rattle.std.proofs.Common.{◌≡◌, ℕ, ◌<◌, ◌≤◌, Bool, true, false, cond, ◌⊎◌, List, [], ◌∷◌, ◌++◌, length, get_or, Some, None, sym, refl, ap, ◌∙◌, subst, inl, inr, arith}
 use Rattle.tree.specs.declared.node.Node.{Node}
 use Rattle.tree.specs.declared.side.Side.{Side}
 use Rattle.tree.specs.declared.side.Side.TheVariants.{Left}
@@ -7,13 +7,13 @@ use Rattle.tree.specs.Changes.{Changed, Free}
 use Rattle.tree.specs.Joins.{Putted, Ready, Joins}
 use Rattle.tree.specs.Lists.{placed, first_of}
 use Rattle.tree.specs.Orders.{Order, past, at_key, Rising}
-use Rattle.tree.specs.Shape.{Shape, leaf, node, none, tall, sided, row, by_entry, In, Distinct, Balanced, Stands, stored_height}
+use Rattle.tree.specs.Shape.{Shape, leaf, node, none, sided, row, by_entry, In, Distinct, stored_height}
 use Rattle.tree.specs.Sides.{near_of, far_of, between, side_of}
-use Rattle.tree.specs.Sound.{Fit, Sound}
+use Rattle.tree.specs.Sound.{Sound}
 use Rattle.tree.proofs.Descends.{opens, opens_row, falls, ready_back, changed_back, rises, sound_near}
-use Rattle.tree.proofs.Mirrors.{row_sided, in_near, Parted}
-use Rattle.tree.proofs.Ordered.{first_between, side_goes, side_same, goes_not, no_far, no_first, placed_between, same_at, first_here, no_left, some_none}
-use Rattle.tree.proofs.Trees.{put_over, Put, past_leaf}
+use Rattle.tree.proofs.Mirrors.{row_sided, in_near}
+use Rattle.tree.proofs.Ordered.{first_between, side_goes, side_same, goes_not, no_far, placed_between, same_at, first_here, no_left, some_none}
+use Rattle.tree.proofs.Trees.{put_over, past_leaf}
 
 module _ {E K : Type 0} (O : Order E K) where
   in_cond : (b : Bool) (k : ℕ) (xs ys : List (ℕ × E)) → In k (cond b xs ys) → In k xs ⊎ In k ys

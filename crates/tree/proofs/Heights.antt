@@ -1,5 +1,5 @@
 -- How high an AVL tree can be: one of height h has at least fib (h + 2) - 1 nodes, and no more than its table has records.
-use Rattle.std.proofs.Common.{◌≡◌, ℕ, zero, suc, ◌+◌, ◌-◌, ◌*◌, ◌^◌, ◌<◌, ◌≤◌, max, ◌≢◌, ◌⊎◌, List, [], ◌∷◌, ◌++◌, length, sym, refl, ap, ◌∙◌, subst, inl, inr, mul-le-mul, arith, length-append}
+use Rattle.std.proofs.Common.{◌≡◌, ℕ, zero, suc, ◌+◌, ◌-◌, ◌*◌, ◌^◌, ◌<◌, ◌≤◌, max, ◌≢◌, ◌⊎◌, List, [], ◌∷◌, ◌++◌, length, sym, refl, ap, subst, inl, inr, mul-le-mul, arith, length-append}
 use native.Mathlib.Decide.{dec_le, ℕ_discrete}
 use Rattle.tree.specs.declared.node.Node.{Node}
 use Rattle.tree.specs.Heights.{fib_from, fib}

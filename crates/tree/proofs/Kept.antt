@@ -1,12 +1,12 @@
 -- Rows in which the entry of a key is taken out, or gets another place.
-use Rattle.std.proofs.Common.{◌≡◌, ℕ, ◌<◌, ◌≢◌, ◌⊎◌, List, [], ◌∷◌, ◌++◌, length, Some, None, Option, unwrap_or, sym, refl, ap, ◌∙◌, subst, inl, inr}
+use Rattle.std.proofs.Common.{◌≡◌, ℕ, ◌<◌, ◌⊎◌, List, [], ◌∷◌, ◌++◌, length, Some, None, Option, unwrap_or, sym, ◌∙◌, subst, inl, inr}
 use Rattle.tree.specs.declared.node.Node.{Node}
 use Rattle.tree.specs.Changes.{Unused, reseated}
-use Rattle.tree.specs.Lists.{edited, without}
+use Rattle.tree.specs.Lists.{without}
 use Rattle.tree.specs.Orders.{Order, at_key, Rising}
 use Rattle.tree.specs.Shape.{by_entry, In, Distinct}
 use Rattle.tree.proofs.Ordered.{Found, found_edited, rising_out, rising_swap}
-use Rattle.tree.proofs.Slots.{parts, in_left, in_right, in_parts, in_out, in_drop, in_mid, distinct_out, distinct_in}
+use Rattle.tree.proofs.Slots.{parts, in_parts, in_out, in_drop, distinct_out, distinct_in}
 
 -- a slot that is given is not in use in a part of the row either
 pub unused_part : {E Z : Type 0} (xs : List (Node E Z)) (to : Option ℕ) (ps qs : List (ℕ × E)) → ((k : ℕ) → In k qs → In k ps) → Unused xs to ps → Unused xs to qs

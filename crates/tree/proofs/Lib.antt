@@ -1,3 +1,4 @@
+pub mod Empty
 pub mod Descends
 pub mod Grows
 pub mod Heights

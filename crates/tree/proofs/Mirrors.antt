@@ -1,13 +1,13 @@
 -- What holds of one side of a node and of the other as its mirror image.
-use Rattle.std.proofs.Common.{◌≡◌, ℕ, ◌+◌, ◌<◌, ◌≤◌, max, ◌⊎◌, List, [], ◌∷◌, ◌++◌, length, get_or, sym, refl, ap, ◌∙◌, subst, inl, inr, append_assoc, arith}
+use Rattle.std.proofs.Common.{◌≡◌, ℕ, ◌+◌, ◌<◌, ◌≤◌, max, List, ◌∷◌, length, get_or, sym, refl, inr, append_assoc, arith}
 use Rattle.tree.specs.declared.node.Node.{Node}
 use Rattle.tree.specs.declared.side.Side.{Side}
 use Rattle.tree.specs.declared.side.Side.TheVariants.{Left, Right}
 use Rattle.tree.specs.Joins.{Putted}
-use Rattle.tree.specs.Shape.{Shape, leaf, node, none, tall, sided, row, ents, In, Distinct, Balanced, Linked, Stands, stored_height}
+use Rattle.tree.specs.Shape.{Shape, none, tall, sided, row, In, Distinct, Balanced, Stands}
 use Rattle.tree.specs.Sides.{pick, opposite, near_of, far_of, between}
 use Rattle.tree.proofs.Slots.{in_left, in_right, in_mid, Parts, parts}
-use Rattle.tree.proofs.Trees.{Opened, opened, Put, put_over}
+use Rattle.tree.proofs.Trees.{opened, Put, put_over}
 
 -- a relation that ties two on the side, and two on the other, ties those on the left
 pub pick_both : {A B : Type 0} (R : A → B → Type 0) (side : Side) (a a' : A) (b b' : B) → R a b → R a' b' → R (pick side a a') (pick side b b')

@@ -8,7 +8,7 @@ use Rattle.tree.specs.declared.side.Side.{Side}
 use Rattle.tree.specs.declared.side.Side.TheVariants.{Left, Right}
 use Rattle.tree.specs.Lists.{placed, edited, first_of}
 use Rattle.tree.specs.Orders.{Order, past, below, at_key, Rising}
-use Rattle.tree.specs.Sides.{pick, opposite, between, side_of}
+use Rattle.tree.specs.Sides.{opposite, between, side_of}
 
 -- no entry passes
 abbrev pub No : {A : Type 0} → (A → Bool) → List A → Type 0

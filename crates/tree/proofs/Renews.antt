@@ -1,26 +1,26 @@
 -- The steps of a writing of one entry in place of another, and of a move to a free slot.
-use Rattle.std.proofs.Common.{◌≡◌, ℕ, ◌+◌, ◌<◌, ◌≤◌, max, Bool, true, false, ◌≢◌, ◌⊎◌, List, [], ◌∷◌, ◌++◌, length, get_or, Some, None, Option, unwrap_or, sym, refl, ap, ◌∙◌, subst, inl, inr, arith}
+use Rattle.std.proofs.Common.{◌≡◌, ℕ, ◌<◌, ◌≤◌, ◌≢◌, List, [], ◌∷◌, ◌++◌, length, get_or, Some, None, Option, unwrap_or, sym, refl, ap, ◌∙◌, subst, inl, inr, arith}
 use Rattle.std.proofs.ByRecursion.{All-append}
 use Rattle.std.proofs.lemmas.List.{get_or_default}
 use Rattle.std.specs.List.{AllByRecursion as All}
 use Rattle.tree.specs.declared.node.Node.{Node}
 use Rattle.tree.specs.declared.side.Side.{Side}
-use Rattle.tree.specs.declared.side.Side.TheVariants.{Left, Right}
-use Rattle.tree.specs.Changes.{Changed, Unused, Vacant, reseated, Gap, Filled}
+use Rattle.tree.specs.declared.side.Side.TheVariants.{Left}
+use Rattle.tree.specs.Changes.{Changed, Vacant, reseated, Gap, Filled}
 use Rattle.tree.specs.Joins.{Putted, Ready, Joins}
 use Rattle.tree.specs.Lists.{first_of}
 use Rattle.tree.specs.Orders.{Order, at_key, Rising}
-use Rattle.tree.specs.Shape.{Shape, leaf, node, none, tall, sided, row, ents, by_entry, In, Distinct, Balanced, record_over, Linked, Stands, stored_height}
+use Rattle.tree.specs.Shape.{Shape, leaf, node, tall, sided, row, ents, by_entry, In, Distinct, record_over, Linked, stored_height}
 use Rattle.tree.specs.Sides.{near_of, far_of, between, side_of}
-use Rattle.tree.specs.Sound.{Fit, Sound}
+use Rattle.tree.specs.Sound.{Sound}
 use Rattle.tree.proofs.Descends.{opens, opens_row, opens_level, opens_tall, falls, ready_back, changed_back, rises, sound_near}
 use Rattle.tree.proofs.Heights.{low, at_slot}
 use Rattle.tree.proofs.Kept.{unused_part, seat_within, seat_new, out_in, out_new, swap_once, swap_rising, swap_row}
-use Rattle.tree.proofs.Mirrors.{row_sided, in_near, Parted, Level}
-use Rattle.tree.proofs.Ordered.{Found, found, first_between, edited_between, side_goes, side_same, goes_not, no_far, same_at, first_here, edited_here, no_left, no_right, all_right}
+use Rattle.tree.proofs.Mirrors.{row_sided, in_near}
+use Rattle.tree.proofs.Ordered.{found, first_between, edited_between, side_goes, side_same, goes_not, no_far, same_at, first_here, edited_here, no_left, no_right, all_right}
 use Rattle.tree.proofs.Shrinks.{there_within}
 use Rattle.tree.proofs.Slots.{parts, in_left, in_right, in_drop}
-use Rattle.tree.proofs.Trees.{put_over, Put, ents_node}
+use Rattle.tree.proofs.Trees.{put_over, ents_node}
 
 module _ {E K Z : Type 0} (M : Z → List E → Type 0) (O : Order E K) where
   -- what a writing gives
@@ -143,7 +143,7 @@ module _ {E K Z : Type 0} (M : Z → List E → Type 0) (O : Order E K) where
             let is : row t ≡ c.0 ++ ((last, m.entry) ∷ c.2) = c.3 ∙ ap (λ (x : E). c.0 ++ ((last, x) ∷ c.2)) (sym f) in
             let r : Rising (by_entry O) (c.0 ++ ((last, m.entry) ∷ c.2)) = subst (Rising (by_entry O)) is S.rising in
             ap (first_of (at_key (by_entry O) (O.key m.entry))) is ∙ first_here (at_key (by_entry O) (O.key m.entry)) c.0 (last, m.entry) c.2 (no_left (by_entry O) (O.key m.entry) c.0 (last, m.entry) c.2 r refl) (same_at (by_entry O) (O.key m.entry) (last, m.entry) refl)
-        | inr no ↦ absurd (no (G.there lt))
+        | inr gone ↦ absurd (gone (G.there lt))
       ]
 
       last_vacant : Vacant O xs (Some slot) m.entry (last, m.entry) t

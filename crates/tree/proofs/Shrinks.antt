@@ -1,22 +1,22 @@
 -- The steps of a removal.
-use Rattle.std.proofs.Common.{◌≡◌, ℕ, ◌+◌, ◌<◌, ◌≤◌, max, Bool, true, false, ◌⊎◌, List, [], ◌∷◌, ◌++◌, length, get_or, Some, None, sym, refl, ap, ◌∙◌, subst, inl, inr, append-nil, arith}
+use Rattle.std.proofs.Common.{◌≡◌, ℕ, ◌<◌, ◌≤◌, Bool, List, [], ◌∷◌, ◌++◌, length, get_or, Some, None, sym, refl, ap, ◌∙◌, subst, inl, inr, append-nil, arith}
 use Rattle.tree.specs.declared.node.Node.{Node}
 use Rattle.tree.specs.declared.side.Side.{Side}
 use Rattle.tree.specs.declared.side.Side.TheVariants.{Left, Right}
 use Rattle.tree.specs.Changes.{Changed, Pair, Glued}
 use Rattle.tree.specs.Joins.{Ready, Joins}
-use Rattle.tree.specs.Lists.{without, edited, first_of}
-use Rattle.tree.specs.Orders.{Order, at_key, Rising}
-use Rattle.tree.specs.Shape.{Shape, leaf, node, none, tall, sided, row, by_entry, In, Distinct, Balanced, Stands, stored_height}
+use Rattle.tree.specs.Lists.{without, first_of}
+use Rattle.tree.specs.Orders.{Order, at_key}
+use Rattle.tree.specs.Shape.{Shape, leaf, node, tall, sided, row, by_entry, In, Distinct, Stands, stored_height}
 use Rattle.tree.specs.Sides.{near_of, far_of, between, side_of}
 use Rattle.tree.specs.Sound.{Fit, Sound}
 use Rattle.tree.proofs.Descends.{ready_again, joined_heights, opens, opens_row, opens_level, opens_tall, fit_near, falls, ready_back, changed_back, rises, sound_near}
 use Rattle.tree.proofs.Heights.{low}
 use Rattle.tree.proofs.Kept.{out_row, out_once}
-use Rattle.tree.proofs.Mirrors.{row_sided, Parted, Level}
+use Rattle.tree.proofs.Mirrors.{row_sided}
 use Rattle.tree.proofs.Ordered.{first_between, edited_between, side_goes, side_same, goes_not, no_far, same_at, first_here, edited_here, no_left, no_right, some_none, some_same, found}
 use Rattle.tree.proofs.Slots.{in_right, distinct_out, distinct_right}
-use Rattle.tree.proofs.Trees.{stands_within, within_tall, past_leaf, in_within, frame_then, frame_wider, frame_none}
+use Rattle.tree.proofs.Trees.{within_tall, past_leaf, in_within, frame_then, frame_wider, frame_none}
 
 -- what a removal of the first entry gives
 abbrev pub Pops : {E Z : Type 0} → (Z → List E → Type 0) → List (Node E Z) → Shape E → List (Node E Z) → ℕ → ℕ → E → Type 0

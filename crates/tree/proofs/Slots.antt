@@ -1,5 +1,5 @@
 -- Rows of slots with entries: which slots stand in them, and that none stands twice.
-use Rattle.std.proofs.Common.{◌≡◌, ℕ, ◌⊎◌, List, [], ◌∷◌, ◌++◌, sym, refl, ap, subst, inl, inr}
+use Rattle.std.proofs.Common.{◌≡◌, ℕ, ◌⊎◌, List, [], ◌∷◌, ◌++◌, sym, refl, subst, inl, inr}
 use Rattle.tree.specs.Shape.{In, Distinct}
 
 pub in_left : {E : Type 0} (k : ℕ) (xs ys : List (ℕ × E)) → In k xs → In k (xs ++ ys)

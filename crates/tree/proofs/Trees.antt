@@ -1,8 +1,8 @@
 -- Trees in a table of records: heights, what a change elsewhere leaves, and what a write makes.
-use Rattle.std.proofs.Common.{◌≡◌, ℕ, zero, suc, ◌+◌, ◌<◌, ◌≤◌, max, ◌≢◌, ◌⊎◌, List, [], ◌∷◌, ◌++◌, length, get_or, set, sym, refl, ap, ◌∙◌, subst, inl, inr, arith, length-set, get_or-set_other, get_or-set_same}
+use Rattle.std.proofs.Common.{◌≡◌, ℕ, zero, suc, ◌<◌, ◌≤◌, ◌≢◌, List, [], ◌∷◌, ◌++◌, length, get_or, set, sym, refl, ap, ◌∙◌, subst, inl, inr, arith, length-set, get_or-set_other, get_or-set_same}
 use Rattle.std.proofs.lemmas.List.{get_or_default, map-append}
 use Rattle.tree.specs.declared.node.Node.{Node}
-use Rattle.tree.specs.Shape.{Shape, leaf, node, none, link, tall, row, ents, In, record_over, Recorded, Linked, Stands, stored_height}
+use Rattle.tree.specs.Shape.{Shape, leaf, node, none, tall, row, ents, In, record_over, Linked, Stands, stored_height}
 use Rattle.tree.specs.Joins.{record_of, Putted, Frame}
 use Rattle.tree.proofs.Slots.{in_left, in_right, in_mid, in_parts}
 

@@ -1,13 +1,12 @@
 -- The rotations, on trees in a table.
-use Rattle.std.proofs.Common.{◌≡◌, ℕ, ◌+◌, ◌<◌, ◌≤◌, max, ◌⊎◌, List, [], ◌∷◌, ◌++◌, length, get_or, sym, refl, ap, ◌∙◌, subst, inl, inr, arith}
+use Rattle.std.proofs.Common.{◌≡◌, ℕ, ◌+◌, ◌<◌, ◌≤◌, List, length, get_or, sym, refl, ap, ◌∙◌, subst, arith}
 use Rattle.tree.specs.declared.node.Node.{Node}
 use Rattle.tree.specs.declared.side.Side.{Side}
-use Rattle.tree.specs.Joins.{Putted, Frame, Ready, Joins}
-use Rattle.tree.specs.Shape.{Shape, none, tall, sided, row, In, Distinct, Balanced, Stands, stored_height}
+use Rattle.tree.specs.Joins.{Putted, Ready, Joins}
+use Rattle.tree.specs.Shape.{Shape, none, tall, sided, row, In, Distinct, Stands, stored_height}
 use Rattle.tree.specs.Sides.{pick, opposite, near_of, far_of, between}
-use Rattle.tree.proofs.Mirrors.{row_sided, between_assoc, in_near, in_far, in_here, parts_between, tall_sided, avl_sided, Level, level, sided_flip, Parted, parted, put_sided}
-use Rattle.tree.proofs.Slots.{Parts}
-use Rattle.tree.proofs.Trees.{height_stands, stands_within, frame_then, Put}
+use Rattle.tree.proofs.Mirrors.{row_sided, between_assoc, in_near, in_far, in_here, parts_between, tall_sided, avl_sided, level, sided_flip, Parted, parted, put_sided}
+use Rattle.tree.proofs.Trees.{height_stands, stands_within, frame_then}
 
 module _ {E Z : Type 0} (M : Z → List E → Type 0) (xs : List (Node E Z)) (at : ℕ) (e : E) (side : Side) (near far : ℕ) where
   -- no rotation

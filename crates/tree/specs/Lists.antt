@@ -1,5 +1,5 @@
 -- What is done to a list of entries, and what is looked for in it. Assumes nothing.
-use Rattle.std.specs.Prelude.{Bool, true, false, cond, ◌||◌, List, [], ◌∷◌, ◌++◌, Some, None, Option}
+use Rattle.std.specs.Prelude.{Bool, false, cond, ◌||◌, List, [], ◌∷◌, ◌++◌, Some, None, Option}
 use Rattle.std.specs.Option.{option_or}
 use Rattle.tree.specs.Orders.{Order, past}
 

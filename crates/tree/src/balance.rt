@@ -11,8 +11,8 @@ impl<E: Entry> Nodes<'_, E, E::Summary> {
     // Joins two trees over a slot, the near one two higher than the other. Its outer subtree comes up with its root or,
     // where the inner one is higher, that one's root comes up.
     fn rotate(&mut self, at: usize, entry: E, side: Side, near: usize, far: usize) -> usize
-        requires { (a : Shape E) × (b : Shape E) × Ready sums self.old.table.now at entry side near far a b × (tall b + 1 < tall a) }
-        ensures { (a b : Shape E) → Ready sums self.old.table.now at entry side near far a b → tall b + 1 < tall a → (t : Shape E) × Joins sums self.old.table.now (sided side a at entry b) self.new.table.now result t }
+        requires { (a : Shape E) × (b : Shape E) × Ready E.sums self.old.table.now at entry side near far a b × (tall b + 1 < tall a) }
+        ensures { (a b : Shape E) → Ready E.sums self.old.table.now at entry side near far a b → tall b + 1 < tall a → (t : Shape E) × Joins E.sums self.old.table.now (sided side a at entry b) self.new.table.now result t }
     {
         let n = self.node(near);
         let outer = n.near(side);
@@ -39,8 +39,8 @@ impl<E: Entry> Nodes<'_, E, E::Summary> {
         near: usize,
         far: usize,
     ) -> usize
-        requires { (a : Shape E) × (b : Shape E) × Ready sums self.old.table.now at entry side near far a b }
-        ensures { (a b : Shape E) → Ready sums self.old.table.now at entry side near far a b → (t : Shape E) × Joins sums self.old.table.now (sided side a at entry b) self.new.table.now result t }
+        requires { (a : Shape E) × (b : Shape E) × Ready E.sums self.old.table.now at entry side near far a b }
+        ensures { (a b : Shape E) → Ready E.sums self.old.table.now at entry side near far a b → (t : Shape E) × Joins E.sums self.old.table.now (sided side a at entry b) self.new.table.now result t }
     {
         let high = self.height(near);
         let low = self.height(far);

@@ -22,8 +22,8 @@ pub(crate) struct Taken<E> {
 impl<E: Entry> Nodes<'_, E, E::Summary> {
     // Puts an entry whose key is not there into the tree at `root`, in a free slot, and returns the new root.
     pub(crate) fn insert(&mut self, root: usize, slot: usize, entry: E) -> usize
-        requires { (t : Shape E) × Sound sums order self.old.table.now root t × Free order self.old.table.now slot entry t }
-        ensures { (t : Shape E) → Sound sums order self.old.table.now root t → Free order self.old.table.now slot entry t → (u : Shape E) × Changed sums self.old.table.now t self.new.table.now result u × (row u ≡ placed (by_entry order) (slot, entry) (row t)) }
+        requires { (t : Shape E) × Sound E.sums E.order self.old.table.now root t × Free E.order self.old.table.now slot entry t }
+        ensures { (t : Shape E) → Sound E.sums E.order self.old.table.now root t → Free E.order self.old.table.now slot entry t → (u : Shape E) × Changed E.sums self.old.table.now t self.new.table.now result u × (row u ≡ placed (by_entry E.order) (slot, entry) (row t)) }
     {
         if root < self.table.len() {
             let n = self.node(root);
@@ -42,8 +42,8 @@ impl<E: Entry> Nodes<'_, E, E::Summary> {
 
     // Takes the first entry out of a tree that has one.
     fn pop_first(&mut self, root: usize) -> Taken<E>
-        requires { (t : Shape E) × Fit sums self.old.table.now root t × (0 < tall t) }
-        ensures { (t : Shape E) → Fit sums self.old.table.now root t → 0 < tall t → (u : Shape E) × Changed sums self.old.table.now t self.new.table.now result.root u × (row t ≡ (result.slot, result.entry) ∷ row u) }
+        requires { (t : Shape E) × Fit E.sums self.old.table.now root t × (0 < tall t) }
+        ensures { (t : Shape E) → Fit E.sums self.old.table.now root t → 0 < tall t → (u : Shape E) × Changed E.sums self.old.table.now t self.new.table.now result.root u × (row t ≡ (result.slot, result.entry) ∷ row u) }
     {
         let n = self.node(root);
         if n.left < self.table.len() {
@@ -65,8 +65,8 @@ impl<E: Entry> Nodes<'_, E, E::Summary> {
 
     // Two trees side by side as one, their heights at most one apart.
     fn glue(&mut self, left: usize, right: usize) -> usize
-        requires { (l : Shape E) × (r : Shape E) × Pair sums self.old.table.now left right l r }
-        ensures { (l r : Shape E) → Pair sums self.old.table.now left right l r → (u : Shape E) × Glued sums self.old.table.now l r self.new.table.now result u }
+        requires { (l : Shape E) × (r : Shape E) × Pair E.sums self.old.table.now left right l r }
+        ensures { (l r : Shape E) → Pair E.sums self.old.table.now left right l r → (u : Shape E) × Glued E.sums self.old.table.now l r self.new.table.now result u }
     {
         if right < self.table.len() {
             let first = self.pop_first(right);
@@ -78,8 +78,8 @@ impl<E: Entry> Nodes<'_, E, E::Summary> {
 
     // Takes the entry of a key out of a tree that has it.
     pub(crate) fn take(&mut self, root: usize, key: E::Key) -> Taken<E>
-        requires { (t : Shape E) × (p : ℕ × E) × Sound sums order self.old.table.now root t × (first_of (at_key (by_entry order) key) (row t) ≡ Some p) }
-        ensures { (t : Shape E) (p : ℕ × E) → Sound sums order self.old.table.now root t → first_of (at_key (by_entry order) key) (row t) ≡ Some p → (u : Shape E) × Changed sums self.old.table.now t self.new.table.now result.root u × (row u ≡ without (at_key (by_entry order) key) (row t)) × (p ≡ (result.slot, result.entry)) }
+        requires { (t : Shape E) × (p : ℕ × E) × Sound E.sums E.order self.old.table.now root t × (first_of (at_key (by_entry E.order) key) (row t) ≡ Some p) }
+        ensures { (t : Shape E) (p : ℕ × E) → Sound E.sums E.order self.old.table.now root t → first_of (at_key (by_entry E.order) key) (row t) ≡ Some p → (u : Shape E) × Changed E.sums self.old.table.now t self.new.table.now result.root u × (row u ≡ without (at_key (by_entry E.order) key) (row t)) × (p ≡ (result.slot, result.entry)) }
     {
         let n = self.node(root);
         match side_of(key, n.entry) {
@@ -106,8 +106,8 @@ impl<E: Entry> Nodes<'_, E, E::Summary> {
     // Writes an entry in place of the one with its key, which there is, in that one's slot or in the free one that is
     // given, and returns the new root.
     pub(crate) fn renew(&mut self, root: usize, to: Option<usize>, entry: E) -> usize
-        requires { (t : Shape E) × (p : ℕ × E) × Sound sums order self.old.table.now root t × Vacant order self.old.table.now to entry p t }
-        ensures { (t : Shape E) (p : ℕ × E) → Sound sums order self.old.table.now root t → Vacant order self.old.table.now to entry p t → (u : Shape E) × Changed sums self.old.table.now t self.new.table.now result u × (row u ≡ reseated order to entry (row t)) }
+        requires { (t : Shape E) × (p : ℕ × E) × Sound E.sums E.order self.old.table.now root t × Vacant E.order self.old.table.now to entry p t }
+        ensures { (t : Shape E) (p : ℕ × E) → Sound E.sums E.order self.old.table.now root t → Vacant E.order self.old.table.now to entry p t → (u : Shape E) × Changed E.sums self.old.table.now t self.new.table.now result u × (row u ≡ reseated E.order to entry (row t)) }
     {
         let n = self.node(root);
         match side_of(entry.key(), n.entry) {
@@ -125,8 +125,8 @@ impl<E: Entry> Nodes<'_, E, E::Summary> {
 
     // Moves the entry at the slot `last`, the last that is in use, to the free slot before it, and returns the new root.
     pub(crate) fn fill(&mut self, root: usize, slot: usize, last: usize) -> usize
-        requires { (t : Shape E) × Sound sums order self.old.table.now root t × Gap self.old.table.now slot last t }
-        ensures { (t : Shape E) → Sound sums order self.old.table.now root t → Gap self.old.table.now slot last t → (u : Shape E) × Filled sums order self.old.table.now last t self.new.table.now result u }
+        requires { (t : Shape E) × Sound E.sums E.order self.old.table.now root t × Gap self.old.table.now slot last t }
+        ensures { (t : Shape E) → Sound E.sums E.order self.old.table.now root t → Gap self.old.table.now slot last t → (u : Shape E) × Filled E.sums E.order self.old.table.now last t self.new.table.now result u }
     {
         if slot < last {
             let moved = self.node(last);

@@ -1,5 +1,6 @@
 //! An AVL tree in a table of records that the caller lends, for every key with a total order and every summary of a
 //! subtree.
+#![tactic(auto)]
 
 mod balance;
 mod change;

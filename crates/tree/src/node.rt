@@ -24,7 +24,7 @@ impl<E: Entry> Node<E, E::Summary> {
     pub fn blank(entry: E) -> Node<E, E::Summary>
         ensures entry { result.entry ≡ entry }
         ensures alone { (result.left ≡ none) × (result.right ≡ none) × (result.height ≡ 1) }
-        ensures summary { sums result.summary (entry ∷ []) }
+        ensures summary { E.sums result.summary (entry ∷ []) }
     {
         let summary = entry.summary();
         Node {

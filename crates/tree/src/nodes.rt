@@ -47,7 +47,7 @@ impl<E: Entry> Nodes<'_, E, E::Summary> {
 
     // The summary of the tree at a link, and that of no entries where there is none.
     pub(crate) fn summary(&self, at: usize) -> E::Summary
-        ensures { length self.now.table.now ≤ none → (t : Shape E) → Stands sums self.now.table.now at t → sums result (ents (row t)) }
+        ensures { length self.now.table.now ≤ none → (t : Shape E) → Stands E.sums self.now.table.now at t → E.sums result (ents (row t)) }
     {
         if at < self.table.len() {
             let n = self.node(at);
@@ -60,7 +60,7 @@ impl<E: Entry> Nodes<'_, E, E::Summary> {
     // Writes the record of an entry over two subtrees: `near` on the side, `far` on the other. Heights stay far below
     // 255, so the sum never stops there.
     pub(crate) fn put(&mut self, at: usize, entry: E, side: Side, near: usize, far: usize)
-        ensures { Putted sums self.old.table.now at entry (pick side near far) (pick side far near) self.new.table.now }
+        ensures { Putted E.sums self.old.table.now at entry (pick side near far) (pick side far near) self.new.table.now }
     {
         let left = side.leftmost(near, far);
         let right = side.leftmost(far, near);

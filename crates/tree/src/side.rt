@@ -34,7 +34,7 @@ impl Side {
 
 // The side of an entry on which a key belongs, and none where it is the entry's own.
 pub(crate) fn side_of<E: Entry>(key: E::Key, entry: E) -> Option<Side>
-    ensures { result ≡ side_of order key (order.key entry) }
+    ensures { result ≡ side_of E.order key (E.order.key entry) }
 {
     let own = entry.key();
     if E::precedes(key, own) {

@@ -17,12 +17,15 @@ pub struct Tree<'t, E, S> {
 impl<'t, E: Entry> Tree<'t, E, E::Summary> {
     /// An empty tree in a table of any contents.
     pub fn new(table: &'t mut [Node<E, E::Summary>]) -> Tree<'t, E, E::Summary>
-        ensures sound { SoundTree sums order result }
+        ensures sound { SoundTree E.sums E.order result }
         ensures list { entries result ≡ [] }
         ensures places { places result ≡ length table.old }
     {
+        let nodes = Nodes { table };
+        // It fits a `usize`, so no slot is `NONE`.
+        let _slots = nodes.len();
         Tree {
-            nodes: Nodes { table },
+            nodes,
             root: NONE,
             count: 0,
         }

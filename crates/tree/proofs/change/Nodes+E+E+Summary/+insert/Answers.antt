@@ -1,6 +1,4 @@
-use Rattle.std.proofs.Common.{sym, ap, ◌∙◌, arith}
-use Rattle.tree.specs.Shape.{none}
-use Rattle.tree.specs.Sides.{side_of}
+use Rattle.std.proofs.Common.{arith}
 use Rattle.tree.proofs.Grows.{grown_leaf, grow_down, grow_ready, grow_back, grown_same}
 use Rattle.tree.proofs.change.Nodes+E+E+Summary.+insert.Goals as goal
 

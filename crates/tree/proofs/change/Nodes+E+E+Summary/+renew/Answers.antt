@@ -25,4 +25,4 @@ returns-in-Some g t c x p S V =
 pub returns-in-None : goal.returns-in-None
 returns-in-None g t c x p S V =
     let h = c.in-None.ensures in
-    renew_here g.E.Entry.sums g.E.Entry.order c.args.self.now.table.now c.args.root c.args.to c.args.entry x p S V c.node-n.result c.node-n.ensures _ c.unwrap-or-place.result c.unwrap-or-place.ensures (cc) c.put.ensures
+    renew_here g.E.Entry.sums g.E.Entry.order c.args.self.now.table.now c.args.root c.args.to c.args.entry x p S V c.node-n.result c.node-n.ensures _ c.unwrap_or-place.result c.unwrap_or-place.ensures (cc) c.put.ensures

@@ -1,7 +1,5 @@
-use Rattle.std.proofs.Common.{◌≡◌, ℕ, ◌+◌, max, List, [], ◌∷◌, ◌++◌, set, sym, ap, ◌∙◌, subst, arith}
-use Rattle.tree.specs.declared.node.Node.{Node}
-use Rattle.tree.specs.Joins.{record_of}
-use Rattle.tree.specs.Shape.{Shape, Stands, row, ents, node, stored_height, none}
+use Rattle.std.proofs.Common.{◌≡◌, ◌+◌, max, [], ◌∷◌, ap, ◌∙◌, arith}
+use Rattle.tree.specs.Shape.{row, ents, stored_height}
 use Rattle.tree.specs.Sides.{pick}
 use Rattle.tree.proofs.Trees.{node_sums}
 use Rattle.tree.proofs.nodes.Nodes+E+E+Summary.put.Goals as goal
@@ -15,12 +13,12 @@ returns-then-at-self g c = record {
       let right = pick c.args.side c.args.far c.args.near in
       let el : c.height.result ≡ stored_height xs left = c.height.ensures ∙ ap (stored_height xs) c.leftmost-left.ensures in
       let er : c.height-2.result ≡ stored_height xs right = c.height-2.ensures ∙ ap (stored_height xs) c.leftmost-right.ensures in
-      let h : c.saturating-add-height.result ≡ max (stored_height xs left) (stored_height xs right) + 1 = omega arith in
+      let h : c.saturating_add-height.result ≡ max (stored_height xs left) (stored_height xs right) + 1 = omega arith in
       cc (c.leftmost-left.ensures, c.leftmost-right.ensures, h);
   sums = λ small l r sl sr.
       node_sums g.E.Entry.sums c.args.at c.args.entry l r c.join-summary.result
-      (c.join-summary.ensures (ents (row l)) (c.args.entry ∷ ents (row r)) (c.summary-left-summary.ensures small l (c.leftmost-left.ensures ∙ sl.0, sl.1))
-      (c.join-rest.ensures (c.args.entry ∷ []) (ents (row r)) c.summary.ensures (c.summary-right-summary.ensures small r (c.leftmost-right.ensures ∙ sr.0, sr.1))));
+      (c.join-summary.ensures (ents (row l)) (c.args.entry ∷ ents (row r)) (c.summary-left_summary.ensures small l (c.leftmost-left.ensures ∙ sl.0, sl.1))
+      (c.join-rest.ensures (c.args.entry ∷ []) (ents (row r)) c.summary.ensures (c.summary-right_summary.ensures small r (c.leftmost-right.ensures ∙ sr.0, sr.1))));
 }
 
 pub returns-else-at-self : goal.returns-else-at-self
@@ -29,6 +27,6 @@ returns-else-at-self g c = record {
   is = λ within hl hr. absurd (omega arith);
   sums = λ small l r sl sr.
       node_sums g.E.Entry.sums c.args.at c.args.entry l r c.join-summary.result
-      (c.join-summary.ensures (ents (row l)) (c.args.entry ∷ ents (row r)) (c.summary-left-summary.ensures small l (c.leftmost-left.ensures ∙ sl.0, sl.1))
-      (c.join-rest.ensures (c.args.entry ∷ []) (ents (row r)) c.summary.ensures (c.summary-right-summary.ensures small r (c.leftmost-right.ensures ∙ sr.0, sr.1))));
+      (c.join-summary.ensures (ents (row l)) (c.args.entry ∷ ents (row r)) (c.summary-left_summary.ensures small l (c.leftmost-left.ensures ∙ sl.0, sl.1))
+      (c.join-rest.ensures (c.args.entry ∷ []) (ents (row r)) c.summary.ensures (c.summary-right_summary.ensures small r (c.leftmost-right.ensures ∙ sr.0, sr.1))));
 }

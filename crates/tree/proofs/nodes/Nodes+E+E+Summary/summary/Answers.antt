@@ -1,4 +1,4 @@
-use Rattle.std.proofs.Common.{List, [], sym, subst}
+use Rattle.std.proofs.Common.{sym, subst}
 use Rattle.tree.specs.Shape.{Shape, row, ents}
 use Rattle.tree.proofs.Trees.{opened, past_leaf}
 use Rattle.tree.proofs.nodes.Nodes+E+E+Summary.summary.Goals as goal
