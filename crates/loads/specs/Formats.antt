@@ -1,6 +1,6 @@
 -- The format of a kind of load: what its loads are as counts and as bytes.
 use Rattle.std.specs.Prelude.{◌≡◌, ℕ, ◌+◌, ◌-◌, ◌^◌, ◌<◌, min, true, cond, List, ◌++◌, length, take, drop, replicate, Some, None, Ok, Err, Option, Result, nat_le, nat_lt}
-use Rattle.std.specs.List.{AllByRecursion as All}
+use Rattle.std.specs.List.{AllByRecursion}
 use Rattle.loads.specs.declared.kind.LoadFault.{LoadFault}
 use Rattle.loads.specs.declared.kind.LoadFault.TheVariants.{Short, NoImage}
 use Rattle.loads.specs.Counts.{within}
@@ -23,7 +23,7 @@ abbrev pub Counted : Format → List ℕ → Type 0
 Counted f cs = within cs f.ceilings ≡ true
 
 abbrev pub Bytes : List ℕ → Type 0
-Bytes bs = All (λ b. b < 256) bs
+Bytes bs = AllByRecursion (λ b. b < 256) bs
 
 -- a number as 64 bits can tell it: the largest one where it is more
 abbrev pub told : ℕ → ℕ

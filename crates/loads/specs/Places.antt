@@ -2,7 +2,7 @@
 use Rattle.std.specs.Prelude.{◌≡◌, ℕ, zero, suc, ◌+◌, ◌-◌, ◌*◌, ◌/◌, ◌%◌, ◌^◌, ◌<◌, true, List, [], ◌∷◌, reverse, length, replicate, nat_le, refl}
 use Rattle.std.proofs.Common.{ap, ap₂, sym, subst, ◌∙◌, arith, pow-suc, mod-eq_of_lt}
 use Rattle.std.proofs.Math.Nat.{pow-zero, pow-succ', zero-mod, zero-div, div-div-eq-div-mul}
-use Rattle.std.specs.List.{AllByRecursion as All}
+use Rattle.std.specs.List.{AllByRecursion}
 use Rattle.std.proofs.lemmas.List.{reverse-reverse, get_or-reverse, length-reverse}
 use Rattle.std.proofs.ByRecursion.{All-get_or, All-from_get_or}
 use Rattle.std.proofs.lemmas.Nat.{div-add-mod', div_below, mod_below, mod-mul-add, div-mul-add, mul-add-lt}
@@ -21,7 +21,7 @@ unfolding level
 length_level zero c = refl
 length_level (suc n) c = ap suc (length_level n c)
 
-pub digits_under : (b n w : ℕ) → 0 < b → All (λ d. d < b) (digits b n w)
+pub digits_under : (b n w : ℕ) → 0 < b → AllByRecursion (λ d. d < b) (digits b n w)
 unfolding digits
 digits_under b zero w p = tt
 digits_under b (suc n) w p = (mod_below w b p, digits_under b n (w / b) p)
@@ -38,7 +38,7 @@ number_digits b (suc n) w p h =
     let rest = number_digits b n (w / b) p (div_below w b (b ^ n) p (rw (← pow-suc) h)) in
     ap (λ q. q * b + w % b) rest ∙ div-add-mod' w b
 
-pub digits_number : (b n : ℕ) (ds : List ℕ) → length ds ≡ n → All (λ d. d < b) ds → digits b n (number b ds) ≡ ds
+pub digits_number : (b n : ℕ) (ds : List ℕ) → length ds ≡ n → AllByRecursion (λ d. d < b) ds → digits b n (number b ds) ≡ ds
 unfolding digits number
 digits_number b zero [] e h = refl
 digits_number b (suc n) [] e h = absurd (omega arith)
@@ -48,7 +48,7 @@ digits_number b (suc n) (d ∷ ds) e h =
     (mod-mul-add (number b ds) b d h.0)
     (ap (digits b n) (div-mul-add (number b ds) b d h.0) ∙ digits_number b n ds (omega arith) h.1)
 
-pub number_below : (b n : ℕ) (ds : List ℕ) → length ds ≡ n → All (λ d. d < b) ds → number b ds < b ^ n
+pub number_below : (b n : ℕ) (ds : List ℕ) → length ds ≡ n → AllByRecursion (λ d. d < b) ds → number b ds < b ^ n
 unfolding number
 number_below b zero [] e h = omega (arith, pow-zero b)
 number_below b (suc n) [] e h = absurd (omega arith)
@@ -67,7 +67,7 @@ level_length zero c (d ∷ ds) h = absurd (false≢true h)
 level_length (suc n) c [] h = absurd (false≢true h)
 level_length (suc n) c (d ∷ ds) h = ap suc (level_length n c ds (and_parts (nat_le d c) (within ds (level n c)) h).1)
 
-pub level_under : (n c : ℕ) (cs : List ℕ) → within cs (level n c) ≡ true → All (λ d. d < c + 1) cs
+pub level_under : (n c : ℕ) (cs : List ℕ) → within cs (level n c) ≡ true → AllByRecursion (λ d. d < c + 1) cs
 unfolding level
 level_under n c [] h = tt
 level_under zero c (d ∷ ds) h = absurd (false≢true h)
@@ -76,7 +76,7 @@ level_under (suc n) c (d ∷ ds) h =
     let l = leb-true d c p.0 in
     (omega arith, level_under n c ds p.1)
 
-pub within_level : (n c : ℕ) (cs : List ℕ) → length cs ≡ n → All (λ d. d < c + 1) cs → within cs (level n c) ≡ true
+pub within_level : (n c : ℕ) (cs : List ℕ) → length cs ≡ n → AllByRecursion (λ d. d < c + 1) cs → within cs (level n c) ≡ true
 unfolding level
 within_level zero c [] e h = refl
 within_level zero c (d ∷ ds) e h = absurd (omega arith)
@@ -90,7 +90,7 @@ digits_within n c w = within_level n c (digits (c + 1) n w) (length_digits (c + 
 
 -- ---- bytes
 
-all_reverse : (P : ℕ → Type 0) (xs : List ℕ) → All P xs → All P (reverse xs)
+all_reverse : (P : ℕ → Type 0) (xs : List ℕ) → AllByRecursion P xs → AllByRecursion P (reverse xs)
 all_reverse P xs h =
     All-from_get_or P (reverse xs) 0 λ i l.
     let k : i < length xs = omega (arith, length-reverse xs) in

@@ -1,6 +1,6 @@
 -- What the reader accepts is the writing of what it gives.
 use Rattle.std.proofs.Common.{◌≡◌, ℕ, zero, suc, ◌+◌, ◌^◌, ◌<◌, ◌≤◌, Bool, true, false, cond, eqb, leb, List, [], ◌∷◌, ◌++◌, length, get_or, take, drop, Some, None, Ok, Err, Option, Result, sym, refl, ap, ◌∙◌, subst, ap₂, arith, length-drop, length-take}
-use Rattle.std.specs.List.{flat_map, AllByRecursion as All}
+use Rattle.std.specs.List.{flat_map, AllByRecursion}
 use Rattle.std.proofs.lemmas.List.{take-append-drop}
 use Rattle.std.proofs.ByRecursion.{All-take, All-drop}
 use Rattle.std.proofs.lemmas.Bool.{leb-true, eqb-true, cond-true}
@@ -77,7 +77,7 @@ module _ (f : Format) (lawful : Lawful f) where
 
   pub record RowsRead (h : ℕ) (before : Option Row) (bs : List ℕ) (rs : List Row) : Type 0 where
     pub written : bs ≡ flat_map (row_bytes f) rs
-    pub writable : All (Writable f) rs
+    pub writable : AllByRecursion (Writable f) rs
     pub faultless : rows_fault h before rs ≡ None
 
   -- one row more

@@ -2,7 +2,7 @@
 use Rattle.std.proofs.Common.{◌≡◌, ℕ, zero, suc, ◌+◌, ◌-◌, ◌*◌, ◌/◌, ◌^◌, ◌<◌, ◌≤◌, min, leb, ◌⊎◌, List, [], ◌∷◌, ◌++◌, map, length, get_or, take, drop, Some, None, Option, sym, ap, ◌∙◌, subst, ap₂, inl, inr, mul-le-mul_right, mul_comm, add-mul, mul-zero, arith, length-append, length-drop, length-take}
 use native.Mathlib.Nat.{div-eq_of_lt}
 use lib.ListN.{length-map}
-use Rattle.std.specs.List.{flat_map, AllByRecursion as All}
+use Rattle.std.specs.List.{flat_map, AllByRecursion}
 use Rattle.std.proofs.lemmas.Nat.{le-div, div-add-mod'}
 use Rattle.std.proofs.lemmas.List.{at_drop_more, flat_map_more, map_more, take-append-drop}
 use Rattle.std.proofs.lemmas.Bool.{cases_lt, leb-true, le-leb, lt-leb, cond-true, cond-false}
@@ -109,7 +109,7 @@ length_put_at at bs buffer h =
 
 -- ---- rows into a buffer
 
-pub all_counted : {X : Type 0} (f : Format) (view : X → Row) → ((x : X) → Counted f (view x).load) → (xs : List X) → All (λ r. Counted f r.load) (map view xs)
+pub all_counted : {X : Type 0} (f : Format) (view : X → Row) → ((x : X) → Counted f (view x).load) → (xs : List X) → AllByRecursion (λ r. Counted f r.load) (map view xs)
 all_counted f view c [] = tt
 all_counted f view c (x ∷ xs) = (c x, all_counted f view c xs)
 

@@ -1,6 +1,6 @@
 -- Rows without fault are the longest runs of the load that they tell.
 use Rattle.std.proofs.Common.{◌≡◌, ℕ, ◌+◌, ◌<◌, ◌≤◌, false, eqb, List, [], ◌∷◌, Some, None, Option, sym, refl, ◌∙◌, inl, inr, arith}
-use Rattle.std.specs.List.{AllByRecursion as All}
+use Rattle.std.specs.List.{AllByRecursion}
 use Rattle.std.proofs.ByRecursion.{All-weaker}
 use Rattle.std.proofs.lemmas.Bool.{cases_lt, both_ways, and_from, eq-eqb}
 use Rattle.loads.specs.Counts.{alike}
@@ -11,7 +11,7 @@ use Rattle.profile.specs.Laws.{Run, InTurn, RowsAreRuns}
 use Rattle.profile.proofs.Accepts.{accepts_writings}
 use Rattle.profile.proofs.Once.{cut, at_row, past_row, early, no_load, next_differs, rows_free}
 
-all_later : (h : ℕ) (p : Row) (rs : List Row) → rows_fault h (Some p) rs ≡ None → All (λ s. end_of p ≤ s.offset) rs
+all_later : (h : ℕ) (p : Row) (rs : List Row) → rows_fault h (Some p) rs ≡ None → AllByRecursion (λ s. end_of p ≤ s.offset) rs
 all_later h p [] e = tt
 all_later h p (r ∷ rs) e =
     let c = cut h (Some p) r rs e in
@@ -57,7 +57,7 @@ module _ (f : Format) (h : ℕ) (load : ℕ → List ℕ) where
         not_after = λ _ s. next_differs f h r rs c.0.not_empty c.1 (sym (past_row f r rs (end_of r) (omega arith)) ∙ (sym (agrees (end_of r) (omega arith)) ∙ s));
       }
 
-  all_runs : (before : Option Row) (rs : List Row) → rows_fault h before rs ≡ None → Agrees before rs → LeftOff before → All (Run load h) rs
+  all_runs : (before : Option Row) (rs : List Row) → rows_fault h before rs ≡ None → Agrees before rs → LeftOff before → AllByRecursion (Run load h) rs
   all_runs before [] e agrees left = tt
   all_runs before (r ∷ rs) e agrees left =
       let c = cut h before r rs e in

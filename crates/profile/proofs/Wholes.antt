@@ -1,7 +1,7 @@
 -- A whole profile written: its answer, its bytes, and that they read back.
 use Rattle.std.proofs.Common.{◌≡◌, ℕ, ◌+◌, ◌*◌, ◌≤◌, true, false, ltb, leb, List, [], ◌∷◌, ◌++◌, length, take, drop, Some, None, Ok, Err, Option, sym, refl, ap, ◌∙◌, ap₂, inl, inr, arith, length-append}
 use Rattle.std.specs.Result.{result_flatten}
-use Rattle.std.specs.List.{flat_map, AllByRecursion as All}
+use Rattle.std.specs.List.{flat_map, AllByRecursion}
 use Rattle.std.proofs.lemmas.List.{take_at}
 use Rattle.std.proofs.lemmas.Bool.{cases_Bool, and_parts, leb-true, cond-true, cond-false}
 use Rattle.terms.specs.declared.refusal.Refusal.{Refusal}
@@ -44,14 +44,14 @@ lawful_free p e = elim (cases_Bool (lawful_horizon p.horizon)) [
 horizon_short : (p : Profile) → profile_fault p ≡ None → p.horizon ≤ 1000000000
 horizon_short p e = leb-true p.horizon 1000000000 (and_parts (ltb 0 p.horizon) (leb p.horizon 1000000000) (lawful_free p e)).1
 
-all_writable : (f : Format) (h : ℕ) (before : Option Row) (rs : List Row) → h ≤ 1000000000 → rows_fault h before rs ≡ None → All (λ r. Counted f r.load) rs → All (Writable f) rs
+all_writable : (f : Format) (h : ℕ) (before : Option Row) (rs : List Row) → h ≤ 1000000000 → rows_fault h before rs ≡ None → AllByRecursion (λ r. Counted f r.load) rs → AllByRecursion (Writable f) rs
 all_writable f h before [] l e c = tt
 all_writable f h before (r ∷ rs) l e c =
     let k = cut h before r rs e in
     let b = k.0.below in
     (record { offset = omega arith; minutes = omega arith; load = c.0 }, all_writable f h (Some r) rs l k.1 c.1)
 
-pub fits_bytes : (f : Format) (p : Profile) → profile_fault p ≡ None → All (λ r. Counted f r.load) p.rows → FitsBytes f p
+pub fits_bytes : (f : Format) (p : Profile) → profile_fault p ≡ None → AllByRecursion (λ r. Counted f r.load) p.rows → FitsBytes f p
 fits_bytes f p e c =
     let h = horizon_short p e in
     let free = rows_free f p e in
@@ -63,7 +63,7 @@ fits_bytes f p e c =
 
 -- ---- bytes
 
-module _ (f : Format) (lawful : Lawful f) (p : Profile) (free : profile_fault p ≡ None) (counted : All (λ r. Counted f r.load) p.rows) (n : ℕ) (many : length p.rows ≡ n)
+module _ (f : Format) (lawful : Lawful f) (p : Profile) (free : profile_fault p ≡ None) (counted : AllByRecursion (λ r. Counted f r.load) p.rows) (n : ℕ) (many : length p.rows ≡ n)
     (buffer one two : List ℕ) (room : leb (profile_size f n) (length buffer) ≡ true) where
   size_is : length (profile_bytes f p) ≡ profile_size f n
   size_is = length_profile f lawful p counted ∙ ap (profile_size f) many

@@ -1,6 +1,6 @@
 -- What was written reads back.
 use Rattle.std.proofs.Common.{◌≡◌, ℕ, suc, ◌+◌, ◌*◌, ◌≤◌, cond, List, [], ◌∷◌, ◌++◌, length, take, drop, Some, None, Ok, Err, Option, sym, refl, ap, ◌∙◌, ap₂, inl, inr, add-mul, arith, length-append}
-use Rattle.std.specs.List.{flat_map, AllByRecursion as All}
+use Rattle.std.specs.List.{flat_map, AllByRecursion}
 use Rattle.std.proofs.lemmas.List.{take_at, drop_at, append_assoc}
 use Rattle.std.proofs.lemmas.Bool.{cases_Bool, le-leb, eq-eqb, cond-true, cond-false}
 use Rattle.terms.specs.declared.refusal.Refusal.{Refusal}
@@ -32,7 +32,7 @@ module _ (f : Format) (lawful : Lawful f) where
       (length-append (to_bytes 4 r.offset) (to_bytes 4 r.minutes) ∙ ap₂ ◌+◌ (length_to_bytes 4 r.offset) (length_to_bytes 4 r.minutes))
       (lawful.sized r.load w)
 
-  pub length_rows : (rs : List Row) → All (λ r. Counted f r.load) rs → length (flat_map (row_bytes f) rs) ≡ length rs * row_size f
+  pub length_rows : (rs : List Row) → AllByRecursion (λ r. Counted f r.load) rs → length (flat_map (row_bytes f) rs) ≡ length rs * row_size f
   length_rows [] w = omega arith
   length_rows (r ∷ rs) w =
       let a = length_row r w.0 in
@@ -66,7 +66,7 @@ module _ (f : Format) (lawful : Lawful f) where
       ∙ (ap (λ o. with_load o (from_bytes (take 4 (drop 4 (row_bytes f r ++ rest)))) (read_front f (drop 8 (row_bytes f r ++ rest)))) first
       ∙ (ap (λ m. with_load r.offset m (read_front f (drop 8 (row_bytes f r ++ rest)))) second ∙ ap (with_load r.offset r.minutes) third))
 
-  pub rows_read : (h : ℕ) (before : Option Row) (rs : List Row) → All (Writable f) rs
+  pub rows_read : (h : ℕ) (before : Option Row) (rs : List Row) → AllByRecursion (Writable f) rs
       → read_rows f h before (length rs) (flat_map (row_bytes f) rs) ≡ unless (rows_fault h before rs) rs
   rows_read h before [] w = refl
   rows_read h before (r ∷ rs) w =
@@ -102,7 +102,7 @@ module _ (f : Format) (lawful : Lawful f) where
       ∙ (cond-true _ _ _ (eq-eqb f.mark f.mark refl)
       ∙ ap₂ (λ h n. cond (lawful_horizon h) (Ok (record { horizon = h; count = n })) (Err ProfileHorizon)) first second)
 
-  pub length_profile : (p : Profile) → All (λ r. Counted f r.load) p.rows → length (profile_bytes f p) ≡ profile_size f (length p.rows)
+  pub length_profile : (p : Profile) → AllByRecursion (λ r. Counted f r.load) p.rows → length (profile_bytes f p) ≡ profile_size f (length p.rows)
   length_profile p w =
       length-append (header_bytes f p.horizon (length p.rows)) (flat_map (row_bytes f) p.rows)
       ∙ ap₂ ◌+◌ (length_header f p.horizon (length p.rows)) (length_rows p.rows w)

@@ -1,6 +1,6 @@
 -- What reading and writing have to do with each other, and with the load at every minute.
 use Rattle.std.specs.Prelude.{◌≡◌, ℕ, ◌+◌, ◌^◌, ◌<◌, ◌≤◌, false, List, [], ◌∷◌, length, None, Ok, ◌≢◌}
-use Rattle.std.specs.List.{AllByRecursion as All}
+use Rattle.std.specs.List.{AllByRecursion}
 use Rattle.loads.specs.Counts.{empty}
 use Rattle.loads.specs.Formats.{Format, Counted, Bytes}
 use Rattle.profile.specs.Rows.{Row, Profile, end_of, load_at, profile_fault, unless}
@@ -16,7 +16,7 @@ pub record Writable (f : Format) (r : Row) : Type 0 where
 pub record FitsBytes (f : Format) (p : Profile) : Type 0 where
   pub horizon : p.horizon < 2 ^ 32
   pub count : length p.rows < 2 ^ 32
-  pub rows : All (Writable f) p.rows
+  pub rows : AllByRecursion (Writable f) p.rows
 
 -- what was written reads back: as it was, or refused for the fault that it has
 abbrev pub ReadsBack : Format → Type 0
@@ -43,11 +43,11 @@ pub record Run (load : ℕ → List ℕ) (horizon : ℕ) (r : Row) : Type 0 wher
 -- each row ends before the later ones begin
 abbrev pub InTurn : List Row → Type 0
 InTurn [] = Unit {0}
-InTurn (r ∷ rs) = All (λ s. end_of r ≤ s.offset) rs × InTurn rs
+InTurn (r ∷ rs) = AllByRecursion (λ s. end_of r ≤ s.offset) rs × InTurn rs
 
 -- the rows of what the reader accepts are the longest runs of the load that they tell, in turn
 pub record Runs (f : Format) (p : Profile) : Type 0 where
-  pub runs : All (Run (load_at f p.rows) p.horizon) p.rows
+  pub runs : AllByRecursion (Run (load_at f p.rows) p.horizon) p.rows
   pub in_turn : InTurn p.rows
 
 abbrev pub RowsAreRuns : Format → Type 0

@@ -1,6 +1,6 @@
 -- The number of different items does not depend on their order.
 use Rattle.std.proofs.Common.{◌≡◌, ℕ, ◌+◌, ◌≤◌, Bool, true, false, cond, not, ◌||◌, List, [], ◌∷◌, map, filter, sym, refl, ap, ◌∙◌, inl, inr, arith}
-use Rattle.std.specs.List.{AllByRecursion as All}
+use Rattle.std.specs.List.{AllByRecursion}
 use Rattle.std.specs.List.Sorted.{IsPermutation}
 use Rattle.std.specs.Str.{bytes_eq}
 use Rattle.std.proofs.ByRecursion.{All-map, All-weaker, all_shuffled}
@@ -57,7 +57,7 @@ distinct_without x [] = refl
 distinct_without x (y ∷ ys) = one_less x y ys (bytes_eq x y) refl (distinct_without x ys)
 
 -- items that are among ys and not x are among the rest of ys
-kept_all : (x : List ℕ) (xs ys : List (List ℕ)) → among x xs ≡ false → All (λ z. among z ys ≡ true) xs → All (λ z. among z (without x ys) ≡ true) xs
+kept_all : (x : List ℕ) (xs ys : List (List ℕ)) → among x xs ≡ false → AllByRecursion (λ z. among z ys ≡ true) xs → AllByRecursion (λ z. among z (without x ys) ≡ true) xs
 kept_all x [] ys n h = tt
 kept_all x (z ∷ zs) ys n h =
     let parts = or_parts (bytes_eq x z) (among x zs) n in
@@ -72,7 +72,7 @@ at_most x xs ys false e m again first =
     let less : distinct_of ys ≡ 1 + distinct_of (without x ys) = distinct_without x ys ∙ ap (λ b. cond b 1 0 + distinct_of (without x ys)) m in
     omega (arith, first refl)
 
-distinct_le : (xs ys : List (List ℕ)) → All (λ x. among x ys ≡ true) xs → distinct_of xs ≤ distinct_of ys
+distinct_le : (xs ys : List (List ℕ)) → AllByRecursion (λ x. among x ys ≡ true) xs → distinct_of xs ≤ distinct_of ys
 distinct_le [] ys h = omega arith
 distinct_le (x ∷ xs) ys h =
     at_most x xs ys (among x xs) refl h.0
@@ -80,7 +80,7 @@ distinct_le (x ∷ xs) ys h =
     (λ n. distinct_le xs (without x ys) (kept_all x xs ys n h.1))
 
 module _ {X : Type 0} (f : X → List ℕ) where
-  among_all : (xs : List X) → All (λ x. among (f x) (map f xs) ≡ true) xs
+  among_all : (xs : List X) → AllByRecursion (λ x. among (f x) (map f xs) ≡ true) xs
   among_all [] = tt
   among_all (x ∷ xs) = (
     or_left (bytes_eq (f x) (f x)) (among (f x) (map f xs)) (same_self (f x)),

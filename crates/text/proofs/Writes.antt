@@ -1,6 +1,6 @@
 -- Digits that are written, and read back.
 use Rattle.std.proofs.Common.{◌≡◌, ℕ, ◌+◌, ◌*◌, ◌/◌, ◌%◌, ◌<◌, ◌≤◌, List, [], ◌∷◌, ◌++◌, length, get_or, drop, is_some, Some, None, Option, sym, refl, ap, ◌∙◌, subst, arith}
-use Rattle.std.specs.List.{AllByRecursion as All}
+use Rattle.std.specs.List.{AllByRecursion}
 use Rattle.std.proofs.lemmas.List.{append-nil, append_assoc, at_drop_more, at_drop_all}
 use Rattle.std.proofs.lemmas.Bool.{false≢true}
 use Rattle.std.proofs.lemmas.Bool.Decides.{nat_tests}
@@ -31,7 +31,7 @@ pair_written b h =
     ∙ ap (joined_value (Some (b / 16))) (value_digit (b % 16) (omega arith))
     ∙ ap Some e
 
-reads_back : (bs : List ℕ) → All (λ b. b < 256) bs → hex_bytes (hex_text bs) ≡ Some bs
+reads_back : (bs : List ℕ) → AllByRecursion (λ b. b < 256) bs → hex_bytes (hex_text bs) ≡ Some bs
 reads_back [] h = refl
 reads_back (b ∷ bs) h =
     ap (λ o. before_all o (hex_bytes (hex_text bs))) (pair_written b h.0)
@@ -55,10 +55,10 @@ before_parts None o bs e = absurd (false≢true (ap is_some e))
 before_parts (Some b) None bs e = absurd (false≢true (ap is_some e))
 before_parts (Some b) (Some rest) bs e = (b, rest, refl, refl, cc)
 
-writes_back : (ds bs : List ℕ) → hex_bytes ds ≡ Some bs → (hex_text bs ≡ ds) × All (λ b. b < 256) bs
+writes_back : (ds bs : List ℕ) → hex_bytes ds ≡ Some bs → (hex_text bs ≡ ds) × AllByRecursion (λ b. b < 256) bs
 writes_back [] bs e =
     let is : bs ≡ [] = cc in
-    (ap hex_text is, subst (λ l. All (λ b. b < 256) l) (sym is) tt)
+    (ap hex_text is, subst (λ l. AllByRecursion (λ b. b < 256) l) (sym is) tt)
 writes_back (d ∷ []) bs e = absurd (false≢true (ap is_some e))
 writes_back (high ∷ (low ∷ ds)) bs e =
     let parts = before_parts (pair_value high low) (hex_bytes ds) bs e in
@@ -70,7 +70,7 @@ writes_back (high ∷ (low ∷ ds)) bs e =
           ∙ ap (λ c. c ∷ (hex_digit (b % 16) ∷ hex_text rest)) digits.0
           ∙ ap (λ c. high ∷ (c ∷ hex_text rest)) digits.1
           ∙ ap (λ l. high ∷ (low ∷ l)) more.0,
-      subst (λ l. All (λ x. x < 256) l) (sym parts.4) (digits.2, more.1),
+      subst (λ l. AllByRecursion (λ x. x < 256) l) (sym parts.4) (digits.2, more.1),
     )
 
 pub hex_law : HexLaw

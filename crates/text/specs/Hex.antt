@@ -1,6 +1,6 @@
 -- Small hexadecimal digits, `0` to `9` and `a` to `f`, two to a byte.
 use Rattle.std.specs.Prelude.{◌≡◌, ℕ, ◌+◌, ◌-◌, ◌*◌, ◌/◌, ◌%◌, ◌<◌, cond, ◌&&◌, List, [], ◌∷◌, Some, None, Option, nat_le, nat_lt}
-use Rattle.std.specs.List.{AllByRecursion as All}
+use Rattle.std.specs.List.{AllByRecursion}
 
 -- the value of the digit that a byte stands for, if it is one
 abbrev pub hex_value : ℕ → Option ℕ
@@ -39,5 +39,5 @@ hex_text (b ∷ bs) = hex_digit (b / 16) ∷ (hex_digit (b % 16) ∷ hex_text bs
 
 -- What is written is read back, and what is read is written again.
 pub record HexLaw : Type 0 where
-  pub reads_back : (bs : List ℕ) → All (λ b. b < 256) bs → hex_bytes (hex_text bs) ≡ Some bs
-  pub writes_back : (ds bs : List ℕ) → hex_bytes ds ≡ Some bs → (hex_text bs ≡ ds) × All (λ b. b < 256) bs
+  pub reads_back : (bs : List ℕ) → AllByRecursion (λ b. b < 256) bs → hex_bytes (hex_text bs) ≡ Some bs
+  pub writes_back : (ds bs : List ℕ) → hex_bytes ds ≡ Some bs → (hex_text bs ≡ ds) × AllByRecursion (λ b. b < 256) bs

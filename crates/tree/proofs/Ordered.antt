@@ -3,7 +3,7 @@ use Rattle.std.proofs.Common.{◌≡◌, Bool, true, false, cond, not, ◌||◌,
 use Rattle.std.proofs.ByRecursion.{All-weaker}
 use Rattle.std.proofs.lemmas.Bool.{both_ways, cond-true, cond-false, or_left, or_right, or_from, not_from_true, not_from_false}
 use Rattle.std.specs.Option.{option_or}
-use Rattle.std.specs.List.{AllByRecursion as All}
+use Rattle.std.specs.List.{AllByRecursion}
 use Rattle.tree.specs.declared.side.Side.{Side}
 use Rattle.tree.specs.declared.side.Side.TheVariants.{Left, Right}
 use Rattle.tree.specs.Lists.{placed, edited, first_of}
@@ -12,7 +12,7 @@ use Rattle.tree.specs.Sides.{opposite, between, side_of}
 
 -- no entry passes
 abbrev pub No : {A : Type 0} → (A → Bool) → List A → Type 0
-No P es = All (λ e. P e ≡ false) es
+No P es = AllByRecursion (λ e. P e ≡ false) es
 
 pub some_same : {A : Type 0} (x y : A) → Some x ≡ Some y → x ≡ y
 some_same x y e = cc
@@ -73,11 +73,11 @@ module _ {A : Type 0} (P : A → Bool) where
     pub edited_here : (xs : List A) (p : A) (ys : List A) → No P xs → P p ≡ true → No P ys → edited P g (xs ++ (p ∷ ys)) ≡ xs ++ (g p ++ ys)
     edited_here xs p ys n h m = edited_left xs (p ∷ ys) n ∙ ap (λ (u : List A). xs ++ (u ++ edited P g ys)) (cond-true (P p) (g p) (p ∷ []) h) ∙ ap (λ (u : List A). xs ++ (g p ++ u)) (edited_no ys m)
 
-pub all_left : {A : Type 0} (P : A → Type 0) (xs ys : List A) → All P (xs ++ ys) → All P xs
+pub all_left : {A : Type 0} (P : A → Type 0) (xs ys : List A) → AllByRecursion P (xs ++ ys) → AllByRecursion P xs
 all_left P [] ys h = tt
 all_left P (x ∷ xs) ys h = (h.0, all_left P xs ys h.1)
 
-pub all_right : {A : Type 0} (P : A → Type 0) (xs ys : List A) → All P (xs ++ ys) → All P ys
+pub all_right : {A : Type 0} (P : A → Type 0) (xs ys : List A) → AllByRecursion P (xs ++ ys) → AllByRecursion P ys
 all_right P [] ys h = h
 all_right P (x ∷ xs) ys h = all_right P xs ys h.1
 
@@ -144,8 +144,8 @@ module _ {A K : Type 0} (O : Order A K) where
   -- a rising list that is cut at one
   pub record Cut (xs : List A) (p : A) (ys : List A) : Type 0 where
     pub lefts : Rising O xs
-    pub befores : All (λ x. below O (O.key p) x ≡ true) xs
-    pub pasts : All (λ y. past O (O.key p) y ≡ true) ys
+    pub befores : AllByRecursion (λ x. below O (O.key p) x ≡ true) xs
+    pub pasts : AllByRecursion (λ y. past O (O.key p) y ≡ true) ys
     pub rights : Rising O ys
 
   pub cut : (xs : List A) (p : A) (ys : List A) → Rising O (xs ++ (p ∷ ys)) → Cut xs p ys
@@ -186,7 +186,7 @@ module _ {A K : Type 0} (O : Order A K) where
       let b = past O (O.key q) x in
       ap (λ (u : List A). cond b (q ∷ (x ∷ (xs ++ (p ∷ ys)))) (x ∷ u)) (placed_left q xs p ys h) ∙ cond_append b (q ∷ (x ∷ xs)) (x ∷ placed O q xs) (p ∷ ys)
 
-  placed_right : (q : A) (xs : List A) (p : A) (ys : List A) → All (λ x. below O (O.key p) x ≡ true) xs → below O (O.key q) p ≡ true → placed O q (xs ++ (p ∷ ys)) ≡ xs ++ (p ∷ placed O q ys)
+  placed_right : (q : A) (xs : List A) (p : A) (ys : List A) → AllByRecursion (λ x. below O (O.key p) x ≡ true) xs → below O (O.key q) p ≡ true → placed O q (xs ++ (p ∷ ys)) ≡ xs ++ (p ∷ placed O q ys)
   placed_right q [] p ys b h = cond-false (past O (O.key q) p) (q ∷ (p ∷ ys)) (p ∷ placed O q ys) (less_not (O.key p) (O.key q) h)
   placed_right q (x ∷ xs) p ys b h =
       cond-false (past O (O.key q) x) (q ∷ (x ∷ (xs ++ (p ∷ ys)))) (x ∷ placed O q (xs ++ (p ∷ ys))) (less_not (O.key x) (O.key q) (O.transitive (O.key x) (O.key p) (O.key q) b.0 h))
@@ -196,11 +196,11 @@ module _ {A K : Type 0} (O : Order A K) where
   placed_between Left q xs p ys h g = placed_left q xs p ys g
   placed_between Right q xs p ys h g = placed_right q ys p xs (cut ys p xs h).befores g
 
-  all_cond : (P : A → Type 0) (b : Bool) (xs ys : List A) → All P xs → All P ys → All P (cond b xs ys)
+  all_cond : (P : A → Type 0) (b : Bool) (xs ys : List A) → AllByRecursion P xs → AllByRecursion P ys → AllByRecursion P (cond b xs ys)
   all_cond P true xs ys h i = h
   all_cond P false xs ys h i = i
 
-  pub all_placed : (P : A → Type 0) (q : A) (xs : List A) → P q → All P xs → All P (placed O q xs)
+  pub all_placed : (P : A → Type 0) (q : A) (xs : List A) → P q → AllByRecursion P xs → AllByRecursion P (placed O q xs)
   all_placed P q [] h i = (h, tt)
   all_placed P q (x ∷ xs) h i = all_cond P (past O (O.key q) x) (q ∷ (x ∷ xs)) (x ∷ placed O q xs) (h, i) (i.0, all_placed P q xs h i.1)
 
@@ -241,7 +241,7 @@ module _ {A K : Type 0} (O : Order A K) where
   found_edited k es p g F = ap (edited (at_key O k) g) F.is ∙ edited_here (at_key O k) g F.before p F.after F.no_before (same_at k p F.here) F.no_after
 
   -- a rising list without one, and with another of the same key in its place
-  all_out : (P : A → Type 0) (xs : List A) (p : A) (ys : List A) → All P (xs ++ (p ∷ ys)) → All P (xs ++ ys)
+  all_out : (P : A → Type 0) (xs : List A) (p : A) (ys : List A) → AllByRecursion P (xs ++ (p ∷ ys)) → AllByRecursion P (xs ++ ys)
   all_out P [] p ys h = h.1
   all_out P (x ∷ xs) p ys h = (h.0, all_out P xs p ys h.1)
 
@@ -249,10 +249,10 @@ module _ {A K : Type 0} (O : Order A K) where
   rising_out [] p ys h = h.1
   rising_out (x ∷ xs) p ys h = (all_out (λ f. past O (O.key x) f ≡ true) xs p ys h.0, rising_out xs p ys h.1)
 
-  all_swap : (k : K) (xs : List A) (p q : A) (ys : List A) → O.key p ≡ O.key q → All (λ f. past O k f ≡ true) (xs ++ (p ∷ ys)) → All (λ f. past O k f ≡ true) (xs ++ (q ∷ ys))
+  all_swap : (k : K) (xs : List A) (p q : A) (ys : List A) → O.key p ≡ O.key q → AllByRecursion (λ f. past O k f ≡ true) (xs ++ (p ∷ ys)) → AllByRecursion (λ f. past O k f ≡ true) (xs ++ (q ∷ ys))
   all_swap k [] p q ys e h = (ap (λ (a : K). O.less k a) (sym e) ∙ h.0, h.1)
   all_swap k (x ∷ xs) p q ys e h = (h.0, all_swap k xs p q ys e h.1)
 
   pub rising_swap : (xs : List A) (p q : A) (ys : List A) → O.key p ≡ O.key q → Rising O (xs ++ (p ∷ ys)) → Rising O (xs ++ (q ∷ ys))
-  rising_swap [] p q ys e h = (subst (λ (a : K). All (λ f. past O a f ≡ true) ys) e h.0, h.1)
+  rising_swap [] p q ys e h = (subst (λ (a : K). AllByRecursion (λ f. past O a f ≡ true) ys) e h.0, h.1)
   rising_swap (x ∷ xs) p q ys e h = (all_swap (O.key x) xs p q ys e h.0, rising_swap xs p q ys e h.1)

@@ -2,7 +2,7 @@
 use Rattle.std.proofs.Common.{◌≡◌, ℕ, ◌<◌, ◌≤◌, ◌≢◌, List, [], ◌∷◌, ◌++◌, length, get_or, Some, None, Option, unwrap_or, sym, refl, ap, ◌∙◌, subst, inl, inr, arith}
 use Rattle.std.proofs.ByRecursion.{All-append}
 use Rattle.std.proofs.lemmas.List.{get_or_default}
-use Rattle.std.specs.List.{AllByRecursion as All}
+use Rattle.std.specs.List.{AllByRecursion}
 use Rattle.tree.specs.declared.node.Node.{Node}
 use Rattle.tree.specs.declared.side.Side.{Side}
 use Rattle.tree.specs.declared.side.Side.TheVariants.{Left}
@@ -112,7 +112,7 @@ module _ {E K Z : Type 0} (M : Z → List E → Type 0) (O : Order E K) where
 
   -- ---- the move of the last entry
   -- each slot of a tree has its entry in the table
-  pub entries_stored : (xs : List (Node E Z)) (t : Shape E) → Linked M xs t → All (λ q. (m : Node E Z) → m ≡ get_or xs q.0 m → m.entry ≡ q.1) (row t)
+  pub entries_stored : (xs : List (Node E Z)) (t : Shape E) → Linked M xs t → AllByRecursion (λ q. (m : Node E Z) → m ≡ get_or xs q.0 m → m.entry ≡ q.1) (row t)
   entries_stored xs leaf h = tt
   entries_stored xs (node l s e r) h =
       let R = h.0 in
@@ -139,7 +139,7 @@ module _ {E K Z : Type 0} (M : Z → List E → Type 0) (O : Order E K) where
       last_there : first_of (at_key (by_entry O) (O.key m.entry)) (row t) ≡ Some (last, m.entry)
       last_there = elim (at_slot last (row t)) [
         | inl c ↦
-            let f : m.entry ≡ c.1 = (all_right (λ q. (x : Node E Z) → x ≡ get_or xs q.0 x → x.entry ≡ q.1) c.0 ((last, c.1) ∷ c.2) (subst (All (λ q. (x : Node E Z) → x ≡ get_or xs q.0 x → x.entry ≡ q.1)) c.3 (entries_stored xs t S.fit.stands.1))).0 m read in
+            let f : m.entry ≡ c.1 = (all_right (λ q. (x : Node E Z) → x ≡ get_or xs q.0 x → x.entry ≡ q.1) c.0 ((last, c.1) ∷ c.2) (subst (AllByRecursion (λ q. (x : Node E Z) → x ≡ get_or xs q.0 x → x.entry ≡ q.1)) c.3 (entries_stored xs t S.fit.stands.1))).0 m read in
             let is : row t ≡ c.0 ++ ((last, m.entry) ∷ c.2) = c.3 ∙ ap (λ (x : E). c.0 ++ ((last, x) ∷ c.2)) (sym f) in
             let r : Rising (by_entry O) (c.0 ++ ((last, m.entry) ∷ c.2)) = subst (Rising (by_entry O)) is S.rising in
             ap (first_of (at_key (by_entry O) (O.key m.entry))) is ∙ first_here (at_key (by_entry O) (O.key m.entry)) c.0 (last, m.entry) c.2 (no_left (by_entry O) (O.key m.entry) c.0 (last, m.entry) c.2 r refl) (same_at (by_entry O) (O.key m.entry) (last, m.entry) refl)

@@ -1,6 +1,6 @@
 -- Entries in the order of their keys. Assumes nothing.
 use Rattle.std.specs.Prelude.{◌≡◌, Bool, true, false, not, ◌||◌, List, [], ◌∷◌}
-use Rattle.std.specs.List.{AllByRecursion as All}
+use Rattle.std.specs.List.{AllByRecursion}
 
 -- the key of each entry, and which key stands before which: a strict total order
 pub record Order (A K : Type 0) : Type 0 where
@@ -25,4 +25,4 @@ at_key O k e = not (past O k e || below O k e)
 -- strictly rising: each entry stands before all later ones
 abbrev pub Rising : {A K : Type 0} → Order A K → List A → Type 0
 Rising O [] = Unit {0}
-Rising O (e ∷ es) = All (λ f. past O (O.key e) f ≡ true) es × Rising O es
+Rising O (e ∷ es) = AllByRecursion (λ f. past O (O.key e) f ≡ true) es × Rising O es
