@@ -3,7 +3,7 @@ ghost use Rattle.std.specs.Prelude.{◌≡◌, ◌≤◌, [], ◌∷◌, if◌th
 ghost use Rattle.std.specs.Option.{option_map};
 ghost use Rattle.loads.specs.Formats.{airtime_format};
 ghost use Rattle.loads.specs.Lawfuls.{airtime_lawful};
-ghost use borrow.Author.Rules.{rules};
+ghost use Rattle.std.proofs.Common.{rules};
 ghost use Rattle.loads.specs.Digits.{level};
 
 use crate::kind::{Kind, LoadFault};
