@@ -65,6 +65,7 @@ pub enum Refusal {
 
 impl Refusal {
     /// The number under which the refusal is written down.
+    // Not a `From`, which would claim that nothing is lost: the counts are left out.
     pub fn number(self) -> u8
         ensures { result ≡ number_of self }
     {
