@@ -1,47 +1,69 @@
 // Lines, and the words in them.
-ghost use Rattle.std.specs.Prelude.{◌≡◌, ◌<◌, ◌≤◌, length};
-ghost use Rattle.text.specs.Lines.{before, line_end, next_line, word_end};
+ghost use Rattle.std.specs.Prelude.{◌≡◌, ◌<◌, ◌≤◌, take, drop, length};
+ghost use Rattle.std.specs.Iterator.{YieldsFirstRef, item_count};
+ghost use Rattle.std.specs.Option.{option_map};
+ghost use Rattle.text.specs.Lines.{before, after, line_end, next_line, word_end, after_word, lines_of, lines_left};
 
-/// Where the first line ends, and where the next begins.
-#[derive(Clone, Copy)]
-pub struct Cut {
-    pub line: usize,
-    pub next: usize,
-}
-
-// The index of the first such byte, or the number of bytes where there is none.
-fn index_of(bytes: &[u8], byte: u8) -> usize
-    ensures value { result ≡ before byte bytes.now }
-    ensures bound { result ≤ length bytes.now }
+// What stands before the first such byte, or all; and what follows that byte, if there is one.
+fn split_at_byte(bytes: &[u8], byte: u8) -> (&[u8], Option<&[u8]>)
+    ensures before { result.0.now ≡ take (before byte bytes.now) bytes.now }
+    ensures after { option_map (λ s. s.now) result.1 ≡ after byte bytes.now }
 {
-    for (i, b) in bytes.iter().enumerate() {
-        if *b == byte {
-            return i;
-        }
+    match bytes.iter().position(|b| *b == byte) {
+        Some(i) => (&bytes[..i], Some(&bytes[i + 1..])),
+        None => (bytes, None),
     }
-    bytes.len()
 }
 
-/// The first line goes up to a line feed, or to the end.
-pub fn next_line(bytes: &[u8]) -> Cut
-    ensures line { result.line ≡ line_end bytes.now }
-    ensures next { result.next ≡ next_line bytes.now }
-    ensures bound { (result.line ≤ result.next) × (result.next ≤ length bytes.now) }
-    ensures advances { 0 < length bytes.now → 0 < result.next }
+/// The first line, which goes up to a line feed, or to the end; and what follows the line feed.
+pub fn next_line(bytes: &[u8]) -> (&[u8], &[u8])
+    ensures line { result.0.now ≡ take (line_end bytes.now) bytes.now }
+    ensures rest { result.1.now ≡ drop (next_line bytes.now) bytes.now }
+    ensures advances { 0 < length bytes.now → length result.1.now < length bytes.now }
 {
-    let line = index_of(bytes, b'\n');
-    let next = if line < bytes.len() {
-        line + 1
-    } else {
-        bytes.len()
-    };
-    Cut { line, next }
+    let (line, rest) = split_at_byte(bytes, b'\n');
+    (line, rest.unwrap_or(&[]))
 }
 
-/// The length of the first word, which goes up to a space, or to the end.
-pub fn word(bytes: &[u8]) -> usize
-    ensures value { result ≡ word_end bytes.now }
-    ensures bound { result ≤ length bytes.now }
+/// The first word, which goes up to a space, or to the end; and what follows the space, if there is one.
+pub fn word(bytes: &[u8]) -> (&[u8], Option<&[u8]>)
+    ensures word { result.0.now ≡ take (word_end bytes.now) bytes.now }
+    ensures rest { option_map (λ s. s.now) result.1 ≡ after_word bytes.now }
 {
-    index_of(bytes, b' ')
+    split_at_byte(bytes, b' ')
+}
+
+/// The lines of bytes, one after another.
+#[derive(Drop)]
+pub struct Lines<'a> {
+    rest: &'a [u8],
+}
+
+impl<'a> Lines<'a> {
+    /// All lines of the bytes, at most one for each byte.
+    #[tactic(auto, using(crate::proofs::Cuts::lines_few))]
+    pub fn of(bytes: &'a [u8]) -> Lines<'a>
+        ensures lines { lines_left result ≡ lines_of bytes.now }
+        ensures few { length (lines_of bytes.now) ≤ length bytes.now }
+    {
+        Lines { rest: bytes }
+    }
+}
+
+impl<'a> Iterator for Lines<'a> {
+    type Item = &'a [u8];
+
+    ghost next_gives = { YieldsFirstRef lines_left };
+
+    ghost remaining = { item_count lines_left };
+
+    #[tactic(auto, using(crate::proofs::Cuts::lines_more))]
+    fn next(&mut self) -> Option<&'a [u8]> {
+        if self.rest.is_empty() {
+            return None;
+        }
+        let (line, rest) = next_line(self.rest);
+        self.rest = rest;
+        Some(line)
+    }
 }
