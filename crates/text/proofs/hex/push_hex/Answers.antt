@@ -15,9 +15,6 @@ loop-byte-preserved c =
       omega arith,
     )
 
-pub returns-in_err-count : goal.returns-in_err-count
-returns-in_err-count c = record { items = search rules; refuses = search rules; law = hex_law }
-
 pub returns-in_err-reserve : goal.returns-in_err-reserve
 returns-in_err-reserve c = record { items = search rules; refuses = search rules; law = hex_law }
 
