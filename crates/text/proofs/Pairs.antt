@@ -1,5 +1,5 @@
 -- Digits read pair by pair.
-use Rattle.std.proofs.Common.{◌≡◌, ℕ, zero, suc, ◌+◌, ◌*◌, ◌/◌, ◌%◌, ◌<◌, eqb, get_or, Bool, true, false, ◌&&◌, List, [], ◌∷◌, length, map, slice_index, is_some, Some, None, Option, unwrap_or, refl, sym, ap, ◌∙◌, arith}
+use Rattle.std.proofs.Common.{◌≡◌, ℕ, zero, suc, ◌*◌, ◌/◌, ◌%◌, ◌<◌, eqb, get_or, Bool, true, false, ◌&&◌, List, [], ◌∷◌, length, map, slice_index, is_some, Some, None, Option, unwrap_or, refl, sym, ap, ◌∙◌, arith}
 use Rattle.std.specs.List.{list_all}
 use Rattle.std.specs.Simd.{first_chunks}
 use Rattle.std.proofs.lemmas.Bool.{false≢true, eqb-true, eqb-false}

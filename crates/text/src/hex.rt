@@ -1,4 +1,5 @@
-// Bytes written as small hexadecimal digits, two for each byte.
+// Bytes written as small hexadecimal digits, two for each byte. A capital letter is no digit here, though the library
+// and the kit's `hex` read it as one.
 ghost use Rattle.std.specs.Prelude.{◌≡◌, ◌+◌, ◌*◌, ◌<◌, ◌≤◌, true, [], ◌∷◌, ◌++◌, length, is_some, is_ok, if◌then◌else◌, slice_index, vec_items, vec_len, vec_capacity, MatchResult, OnErr};
 ghost use Rattle.std.specs.List.{list_all};
 ghost use Rattle.std.specs.Option.{option_map};
@@ -68,6 +69,7 @@ fn digits_of(byte: u8) -> [u8; 2]
 }
 
 /// Adds two digits for each byte. Where there is no memory for all of them, nothing is added.
+#[tactic(auto, using(crate::proofs::Writes::hex_law, crate::proofs::Writes::text_more, crate::proofs::Writes::text_all))]
 pub fn push_hex(out: &mut Vec<u8>, bytes: &[u8]) -> Result<(), AllocError>
     ensures items { out.new.items ≡ (if is_ok result then out.old.items ++ hex_text bytes.now else out.old.items) }
     ensures refuses { OnErr result (vec_capacity out.old < vec_len out.old + 2 * length bytes.now) }
