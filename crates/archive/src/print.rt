@@ -1,13 +1,13 @@
-// The text of what was read, pushed piece by piece.
-ghost use Rattle.std.specs.Prelude.{◌≡◌, ◌++◌, map, length, OnOk};
-ghost use Rattle.loads.specs.Formats.{told};
+// The text of what was read, pushed in pieces: `write!` to bytes would answer an error wider than want of memory.
+ghost use Rattle.std.specs.Prelude.{◌≡◌, ◌++◌, map, codes, decimal, OnOk};
 ghost use Rattle.std.specs.List.{flat_map};
 ghost use Rattle.profile.specs.Views.{row_of, profile_of};
-ghost use Rattle.archive.specs.Texts.{field, row_text, accepted_text, refused_text, bad_text};
+ghost use Rattle.text.specs.Hex.{hex_text};
+ghost use Rattle.archive.specs.Texts.{feed, field, row_text, accepted_text, refused_text, bad_text};
 
 use loads::kind::Kind;
 use profile::row::{Profile, Row};
-use std::alloc::{AllocError, Global};
+use std::alloc::AllocError;
 use terms::refusal::Refusal;
 use text::decimal::push_decimal;
 use text::hex::push_hex;
@@ -33,42 +33,32 @@ pub(crate) fn push_refused(out: &mut Vec<u8>, refusal: Refusal) -> Result<(), Al
     out.extend_from_slice(b"\n")
 }
 
-// Adds a row. The buffer is as long as an image, but for images that are longer than any buffer.
-fn push_row<K: Kind>(
-    out: &mut Vec<u8>,
-    image: &mut [u8],
-    row: Row<K::Load>,
-) -> Result<(), AllocError>
-    requires { length image.old ≡ told K.Kind.format.size }
-    ensures { OnOk result (out.new.items ≡ out.old.items ++ row_text K.Kind.format (row_of K.Kind.counts row)) }
+// Adds a row, its load given as the image.
+fn push_row(out: &mut Vec<u8>, offset: u32, length: u32, image: &[u8]) -> Result<(), AllocError>
+    ensures { OnOk result (out.new.items ≡ out.old.items ++ (decimal offset ++ field (codes " ") length ++ codes " " ++ hex_text image.now ++ feed)) }
 {
-    if !K::put(row.load, image) {
-        return Err(AllocError);
-    }
-    push_decimal(out, u64::from(row.offset))?;
-    push_field(out, b" ", u64::from(row.length))?;
+    push_decimal(out, u64::from(offset))?;
+    push_field(out, b" ", u64::from(length))?;
     out.extend_from_slice(b" ")?;
     push_hex(out, image)?;
     out.extend_from_slice(b"\n")
 }
 
-fn push_rows<K: Kind>(
-    out: &mut Vec<u8>,
-    image: &mut [u8],
-    rows: &[Row<K::Load>],
-) -> Result<(), AllocError>
-    requires { length image.old ≡ told K.Kind.format.size }
+fn push_rows<K: Kind>(out: &mut Vec<u8>, rows: &[Row<K::Load>]) -> Result<(), AllocError>
     ensures { OnOk result (out.new.items ≡ out.old.items ++ flat_map (row_text K.Kind.format) (map (row_of K.Kind.counts) rows.now)) }
 {
+    let mut room = vec![in *out.allocator(); 0; K::image_len() as usize]?;
+    let image = room.as_mut_slice();
     for row in rows {
-        push_row::<K>(out, image, *row)?;
+        // There is room for every image: one that is longer than any buffer got none.
+        K::put(row.load, image);
+        push_row(out, row.offset, row.length, image)?;
     }
     Ok(())
 }
 
 /// Adds the text of an accepted profile.
 pub(crate) fn push_profile<K: Kind>(
-    heap: Global,
     out: &mut Vec<u8>,
     profile: &Profile<K::Load>,
 ) -> Result<(), AllocError>
@@ -77,6 +67,5 @@ pub(crate) fn push_profile<K: Kind>(
     push_field(out, b"ok ", u64::from(profile.horizon))?;
     push_field(out, b" ", profile.rows.len() as u64)?;
     out.extend_from_slice(b"\n")?;
-    let mut image = vec![in heap; 0; K::image_len() as usize]?;
-    push_rows::<K>(out, image.as_mut_slice(), profile.rows.as_slice())
+    push_rows::<K>(out, profile.rows.as_slice())
 }

@@ -1,12 +1,13 @@
-use Rattle.std.proofs.Common.{◌≡◌, List, ◌++◌, length}
-use Rattle.archive.specs.Findings.{Finding}
-use Rattle.archive.specs.Reports.{findings_of}
-use Rattle.archive.specs.Views.{Holds}
+use Rattle.std.proofs.Common.{◌≡◌, map, vec_items}
+use Rattle.std.specs.List.{flat_map}
+use Rattle.archive.specs.Findings.{finding}
+use Rattle.archive.specs.Texts.{answer_text}
+use Rattle.archive.specs.Views.{Sorted}
 use Rattle.archive.proofs.report.report.Given as goal
 
--- the draft holds the findings so far, and with those of the rest they are all
-abbrev pub invariant-loop-rest : goal.invariant-loop-rest
-invariant-loop-rest l = (fs : List Finding) × Holds fs l.draft × (fs ++ findings_of l.rest ≡ findings_of l.input)
-
-abbrev pub decreases-loop-rest : goal.decreases-loop-rest
-decreases-loop-rest l = length l.rest
+-- the answers to the lines so far, and their findings sorted
+abbrev pub invariant-loop-line : goal.invariant-loop-line
+invariant-loop-line l = record {
+  answers : vec_items l.text ≡ flat_map answer_text (map (λ x. finding x.now) l.yielded);
+  sorted : Sorted (map (λ x. finding x.now) l.yielded) (vec_items l.accepted) (vec_items l.rejections);
+}
