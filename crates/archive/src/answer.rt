@@ -43,6 +43,7 @@ fn answer_as<K: Kind>(out: &mut Vec<u8>, bytes: &[u8]) -> Result<Result<(), Refu
             push_refused(out, refusal)?;
             Ok(Err(refusal))
         }
+        // Want of memory is no answer to the line, so it leaves by the outer error.
         Err(ReadError::OutOfMemory) => Err(AllocError),
     }
 }

@@ -1,4 +1,4 @@
-// The text of what was read, pushed in pieces: `write!` to bytes would answer an error wider than want of memory.
+// The text of what was read.
 ghost use Rattle.std.specs.Prelude.{◌≡◌, ◌++◌, map, codes, decimal, OnOk};
 ghost use Rattle.std.specs.List.{flat_map};
 ghost use Rattle.profile.specs.Views.{row_of, profile_of};
@@ -12,14 +12,6 @@ use terms::refusal::Refusal;
 use text::decimal::push_decimal;
 use text::hex::push_hex;
 
-/// Adds a label and a number after it.
-pub(crate) fn push_field(out: &mut Vec<u8>, label: &[u8], n: u64) -> Result<(), AllocError>
-    ensures { OnOk result (out.new.items ≡ out.old.items ++ field label.now n) }
-{
-    out.extend_from_slice(label)?;
-    push_decimal(out, n)
-}
-
 pub(crate) fn push_bad(out: &mut Vec<u8>) -> Result<(), AllocError>
     ensures { OnOk result (out.new.items ≡ out.old.items ++ bad_text) }
 {
@@ -29,16 +21,18 @@ pub(crate) fn push_bad(out: &mut Vec<u8>) -> Result<(), AllocError>
 pub(crate) fn push_refused(out: &mut Vec<u8>, refusal: Refusal) -> Result<(), AllocError>
     ensures { OnOk result (out.new.items ≡ out.old.items ++ refused_text refusal) }
 {
-    push_field(out, b"refused ", u64::from(refusal.number()))?;
-    out.extend_from_slice(b"\n")
+    let number = refusal.number();
+    let line = format!(in *out.allocator(); "refused {number}\n")?;
+    out.extend_from_slice(line.as_bytes())
 }
 
-// Adds a row, its load given as the image.
+// Adds a row, its load given as the image. It is pushed in pieces, since a text made for each row takes half as long again.
 fn push_row(out: &mut Vec<u8>, offset: u32, length: u32, image: &[u8]) -> Result<(), AllocError>
     ensures { OnOk result (out.new.items ≡ out.old.items ++ (decimal offset ++ field (codes " ") length ++ codes " " ++ hex_text image.now ++ feed)) }
 {
     push_decimal(out, u64::from(offset))?;
-    push_field(out, b" ", u64::from(length))?;
+    out.extend_from_slice(b" ")?;
+    push_decimal(out, u64::from(length))?;
     out.extend_from_slice(b" ")?;
     push_hex(out, image)?;
     out.extend_from_slice(b"\n")
@@ -64,8 +58,9 @@ pub(crate) fn push_profile<K: Kind>(
 ) -> Result<(), AllocError>
     ensures { OnOk result (out.new.items ≡ out.old.items ++ accepted_text K.Kind.format (profile_of K.Kind.counts profile.now.horizon profile.now.rows.items)) }
 {
-    push_field(out, b"ok ", u64::from(profile.horizon))?;
-    push_field(out, b" ", profile.rows.len() as u64)?;
-    out.extend_from_slice(b"\n")?;
+    let horizon = profile.horizon;
+    let count = profile.rows.len();
+    let line = format!(in *out.allocator(); "ok {horizon} {count}\n")?;
+    out.extend_from_slice(line.as_bytes())?;
     push_rows::<K>(out, profile.rows.as_slice())
 }

@@ -5,7 +5,6 @@ ghost use Rattle.archive.specs.Reports.{totals_of, total_text};
 ghost use Rattle.archive.specs.Views.{Sorted};
 
 use crate::answer::Rejection;
-use crate::print::push_field;
 use std::alloc::AllocError;
 use text::distinct::distinct;
 
@@ -17,16 +16,16 @@ pub(crate) fn push_totals(
 ) -> Result<(), AllocError>
     ensures { OnOk result ((fs : List Finding) → Sorted fs accepted.items rejections.now → out.new.items ≡ out.old.items ++ total_text (totals_of fs)) }
 {
-    let ok = accepted.len() as u64;
+    let ok = accepted.len();
     let bad = rejections
         .iter()
         .filter(|r| matches!(**r, Rejection::BadLine))
-        .count() as u64;
-    let refused = rejections.len() as u64 - bad;
-    push_field(out, b"total ", ok + refused + bad)?;
-    push_field(out, b" ok ", ok)?;
-    push_field(out, b" refused ", refused)?;
-    push_field(out, b" bad ", bad)?;
-    push_field(out, b" distinct ", distinct(accepted) as u64)?;
-    out.extend_from_slice(b"\n")
+        .count();
+    let refused = rejections.len() - bad;
+    let total = ok + refused + bad;
+    let distinct = distinct(accepted);
+    let line = format!(in *out.allocator();
+        "total {total} ok {ok} refused {refused} bad {bad} distinct {distinct}\n"
+    )?;
+    out.extend_from_slice(line.as_bytes())
 }
