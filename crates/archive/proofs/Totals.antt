@@ -5,8 +5,8 @@ use Rattle.std.specs.declared.alloc.Global.{Global}
 use Rattle.std.proofs.lemmas.List.{append-nil, flat_map_more, length-map, map_push}
 use Rattle.std.proofs.lemmas.List.Sums.{sum_by-cons}
 use Rattle.text.specs.Distinct.{distinct_of}
-use Rattle.archive.specs.declared.answer.Rejection.{Rejection}
-use Rattle.archive.specs.declared.answer.Rejection.TheVariants.{BadLine, Refused}
+use Rattle.archive.specs.declared.rejection.Rejection.{Rejection}
+use Rattle.archive.specs.declared.rejection.Rejection.TheVariants.{BadLine, Refused}
 use Rattle.archive.specs.Findings.{Finding, bad, refused, accepted, is_bad, is_refused, accepted_bytes, verdict}
 use Rattle.archive.specs.Reports.{Totals, totals_of}
 use Rattle.archive.specs.Views.{verdict_of, rejections_of, Sorted}

@@ -5,8 +5,8 @@ use Rattle.std.specs.declared.alloc.Global.{Global}
 use Rattle.terms.specs.declared.refusal.Refusal.{Refusal as Reason}
 use Rattle.archive.specs.declared.kind_name.KindName.{KindName}
 use Rattle.archive.specs.declared.line.Filing.{Filing}
-use Rattle.archive.specs.declared.answer.Rejection.{Rejection}
-use Rattle.archive.specs.declared.answer.Rejection.TheVariants.{BadLine, Refused}
+use Rattle.archive.specs.declared.rejection.Rejection.{Rejection}
+use Rattle.archive.specs.declared.rejection.Rejection.TheVariants.{BadLine, Refused}
 use Rattle.archive.specs.Findings.{Finding, bad, refused, accepted, accepted_bytes}
 
 abbrev pub filing_of : Filing → KindName × List ℕ

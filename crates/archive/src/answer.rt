@@ -9,7 +9,8 @@ ghost use Rattle.archive.specs.Views.{filing_of, verdict_of};
 
 use crate::kind_name::KindName;
 use crate::line::{Filing, read_line};
-use crate::print::{push_bad, push_profile, push_refused};
+use crate::print::{push_line, push_profile};
+use crate::rejection::Rejection;
 use loads::airtime::Airtime;
 use loads::crews::Crews;
 use loads::kind::Kind;
@@ -18,13 +19,6 @@ use profile::read::read;
 use profile::row::ReadError;
 use std::alloc::AllocError;
 use terms::refusal::Refusal;
-
-/// Why a line files no profile: it is not of the form, or its bytes were refused.
-#[derive(Clone, Copy, PartialEq, Eq, Debug)]
-pub enum Rejection {
-    BadLine,
-    Refused(Refusal),
-}
 
 /// What a line was found to be: of an accepted one, the bytes of its profile.
 pub type Verdict = Result<Vec<u8>, Rejection>;
@@ -40,7 +34,7 @@ fn answer_as<K: Kind>(out: &mut Vec<u8>, bytes: &[u8]) -> Result<Result<(), Refu
             Ok(Ok(()))
         }
         Err(ReadError::Refused(refusal)) => {
-            push_refused(out, refusal)?;
+            push_line(out, Rejection::Refused(refusal))?;
             Ok(Err(refusal))
         }
         // Want of memory is no answer to the line, so it leaves by the outer error.
@@ -48,7 +42,7 @@ fn answer_as<K: Kind>(out: &mut Vec<u8>, bytes: &[u8]) -> Result<Result<(), Refu
     }
 }
 
-// The same for the kind of a name. Kinds are types, so that each is written out.
+// The same for the kind of a name. Kinds are types, so each is written out.
 fn answer_named(
     out: &mut Vec<u8>,
     kind: KindName,
@@ -84,7 +78,7 @@ pub fn answer(out: &mut Vec<u8>, line: &[u8]) -> Result<Verdict, AllocError>
     match read_line(*out.allocator(), line)? {
         Some(filing) => answer_filing(out, filing),
         None => {
-            push_bad(out)?;
+            push_line(out, Rejection::BadLine)?;
             Ok(Err(Rejection::BadLine))
         }
     }

@@ -4,7 +4,8 @@ ghost use Rattle.archive.specs.Findings.{Finding};
 ghost use Rattle.archive.specs.Reports.{totals_of, total_text};
 ghost use Rattle.archive.specs.Views.{Sorted};
 
-use crate::answer::Rejection;
+use crate::print::push_line;
+use crate::rejection::Rejection;
 use std::alloc::AllocError;
 use text::distinct::distinct;
 
@@ -24,8 +25,8 @@ pub(crate) fn push_totals(
     let refused = rejections.len() - bad;
     let total = ok + refused + bad;
     let distinct = distinct(accepted);
-    let line = format!(in *out.allocator();
-        "total {total} ok {ok} refused {refused} bad {bad} distinct {distinct}\n"
-    )?;
-    out.extend_from_slice(line.as_bytes())
+    push_line(
+        out,
+        format_args!("total {total} ok {ok} refused {refused} bad {bad} distinct {distinct}"),
+    )
 }

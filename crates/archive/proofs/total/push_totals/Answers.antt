@@ -1,6 +1,5 @@
 use Rattle.std.proofs.Common.{◌≡◌, ◌++◌, ◌+◌, ◌-◌, length, count_by, vec_items, OnOk, ap, ◌∙◌, rules, arith}
-use Rattle.std.specs.String.{string_bytes}
-use Rattle.std.proofs.lemmas.Result.{on_ok_weaker}
+use Rattle.std.proofs.lemmas.Result.{on_ok_weaker, IfOk-equal}
 use Rattle.std.proofs.lemmas.List.Sums.{count_by-le-length}
 use Rattle.std.proofs.lemmas.List.{append_assoc}
 use Rattle.archive.specs.Reports.{total_text}
@@ -17,8 +16,7 @@ returns c =
     let d = c.distinct-distinct in
     let b : bad ≡ count_by is_bad_line rs = search rules in
     let all : refused + bad ≡ length rs = omega (arith, count_by-le-length is_bad_line rs) in
-    let line : string_bytes c.in_ok-line.line ≡ total_text (totals (ok + refused + bad) ok refused bad d.result) = search (rules, append_assoc) in
-    let told : OnOk c.extend_from_slice.result (vec_items c.extend_from_slice.new.self ≡ out ++ total_text (totals (ok + refused + bad) ok refused bad d.result)) = search rules in
-    on_ok_weaker c.extend_from_slice.result
+    let told : OnOk c.push_line.result (vec_items c.push_line.new.out ≡ out ++ total_text (totals (ok + refused + bad) ok refused bad d.result)) = search (rules, IfOk-equal, append_assoc) in
+    on_ok_weaker c.push_line.result
     (λ e fs s. e ∙ ap (λ t. out ++ total_text t) (totals_is fs (vec_items c.args.accepted) rs ok refused bad d.result s (c.len-ok.ensures ∙ c.args.accepted.ok.0) b all d.ensures))
     told
