@@ -1,6 +1,6 @@
 -- Headers and rows as the code reads them: number by number.
 use Rattle.std.proofs.Common.{◌≡◌, ℕ, ◌+◌, ◌*◌, ◌^◌, ◌<◌, ◌≤◌, Bool, cond, ◌||◌, List, length, get_or, take, drop, Ok, Err, Option, Result, sym, ap, ◌∙◌, ap₂, inl, inr, arith, length-drop}
-use Rattle.std.proofs.lemmas.List.{get_or-drop, drop_all}
+use Rattle.std.proofs.lemmas.List.{get_or-drop, drop_all, take_all}
 use Rattle.std.proofs.lemmas.Bool.{cases_lt, le-leb, eq-eqb, cond-true}
 use Rattle.terms.specs.declared.refusal.Refusal.TheVariants.{ProfileHorizon}
 use Rattle.loads.specs.declared.kind.LoadFault.{LoadFault}
@@ -41,3 +41,7 @@ drop_told n bs h = elim (cases_lt n (2 ^ 64)) [
   | inl l ↦ let e : told n ≡ n = omega arith in ap (λ k. drop k bs) e
   | inr l ↦ drop_all (told n) bs (omega arith) ∙ sym (drop_all n bs (omega arith))
 ]
+
+-- the number that four bytes write
+pub word_is : (bs : List ℕ) → length bs ≡ 4 → get_or bs 0 0 * 16777216 + get_or bs 1 0 * 65536 + get_or bs 2 0 * 256 + get_or bs 3 0 ≡ from_bytes bs
+word_is bs e = word_4 _ _ _ _ ∙ ap from_bytes (front_4 bs (omega arith) ∙ take_all 4 bs (omega arith))

@@ -1,7 +1,8 @@
 -- Rows checked and written one by one, and the room that they want.
-use Rattle.std.proofs.Common.{◌≡◌, ℕ, zero, suc, ◌+◌, ◌-◌, ◌*◌, ◌/◌, ◌^◌, ◌<◌, ◌≤◌, min, leb, ◌⊎◌, List, [], ◌∷◌, ◌++◌, map, length, get_or, take, drop, Some, None, Option, sym, ap, ◌∙◌, subst, ap₂, inl, inr, mul-le-mul_right, mul_comm, add-mul, mul-zero, arith, length-append, length-drop, length-take}
+use Rattle.std.proofs.Common.{◌≡◌, ℕ, zero, suc, ◌+◌, ◌-◌, ◌*◌, ◌/◌, ◌^◌, ◌<◌, ◌≤◌, min, Bool, true, false, cond, leb, ◌⊎◌, List, [], ◌∷◌, ◌++◌, map, length, get_or, take, drop, Some, None, Option, sym, refl, ap, ◌∙◌, subst, ap₂, inl, inr, mul-le-mul_right, mul_comm, add-mul, mul-zero, arith, length-append, length-drop, length-take}
 use native.Mathlib.Nat.{div-eq_of_lt}
 use lib.ListN.{length-map}
+use Rattle.std.specs.Bool.{then_some}
 use Rattle.std.specs.List.{flat_map, AllByRecursion}
 use Rattle.std.proofs.lemmas.Nat.{le-div, div-add-mod'}
 use Rattle.std.proofs.lemmas.List.{at_drop_more, flat_map_more, map_more, take-append-drop}
@@ -35,37 +36,35 @@ rows_few h before (r ∷ rs) e l =
 
 -- ---- room
 
+some_cond : (b : Bool) (n : ℕ) → then_some b n ≡ cond b (Some n) None
+some_cond true n = refl
+some_cond false n = refl
+
 -- the length of a row, which stops at the largest number
-abbrev row_told : ℕ → ℕ
+abbrev pub row_told : ℕ → ℕ
 row_told size = told (8 + size)
 
--- so many rows fit what is left after the header, told by a quotient
-pub room_is : (size n room : ℕ) → 9 ≤ room → room < 2 ^ 64 → leb n ((room - 9) / row_told size) ≡ leb (9 + n * (8 + size)) room
-room_is size n room h k = same_from_decides _ _ (λ e. to (leb-true n ((room - 9) / row_told size) e), λ e. le-leb n ((room - 9) / row_told size) (from e)) (decides_leb (9 + n * (8 + size)) room)
+-- the place after so many rows, none where it is past the buffer
+pub end_is : (size n at end : ℕ) (buffer : List ℕ) → length buffer < 2 ^ 64 - 1 → end ≡ row_told size * n + at
+    → then_some (leb end (length buffer)) end ≡ place_after at (n * (8 + size)) buffer
+end_is size n at end buffer h e = elim (cases_lt (8 + size) (2 ^ 64)) [
+  | inl s ↦
+      let t : row_told size ≡ 8 + size = omega arith in
+      let m : row_told size * n ≡ n * (8 + size) = ap (λ (d : ℕ). d * n) t ∙ mul_comm (8 + size) n in
+      let is : end ≡ at + n * (8 + size) = omega arith in
+      ap (λ k. then_some (leb k (length buffer)) k) is ∙ some_cond (leb (at + n * (8 + size)) (length buffer)) (at + n * (8 + size))
+  | inr s ↦ past n s e
+]
   where
-    to : n ≤ (room - 9) / row_told size → 9 + n * (8 + size) ≤ room
-    to l = elim (cases_lt (8 + size) (2 ^ 64)) [
-      | inl s ↦
-          let t : row_told size ≡ 8 + size = omega arith in
-          let m = mul-le-mul_right (8 + size) (subst (λ d. n ≤ (room - 9) / d) t l) in
-          omega (arith, div-add-mod' (room - 9) (8 + size))
-      | inr s ↦
-          let t : room - 9 < row_told size = omega arith in
-          let z : n ≡ 0 = omega (arith, div-eq_of_lt t) in
-          let w : n * (8 + size) ≡ 0 = ap (λ (i : ℕ). i * (8 + size)) z ∙ omega arith in
-          omega arith
-    ]
-
-    from : 9 + n * (8 + size) ≤ room → n ≤ (room - 9) / row_told size
-    from l = le-div n (room - 9) (row_told size) (omega arith) (fits (cases_lt (8 + size) (2 ^ 64)))
-      where
-        fits : (8 + size < 2 ^ 64) ⊎ (2 ^ 64 ≤ 8 + size) → n * row_told size ≤ room - 9
-        fits (inl s) = let t : row_told size ≡ 8 + size = omega arith in omega (arith, ap (λ (d : ℕ). n * d) t)
-        fits (inr s) = none n l
-          where
-            none : (i : ℕ) → 9 + i * (8 + size) ≤ room → i * row_told size ≤ room - 9
-            none zero q = omega arith
-            none (suc i) q = absurd (omega (arith, add-mul 1 i (8 + size)))
+    past : (i : ℕ) → 2 ^ 64 ≤ 8 + size → end ≡ row_told size * i + at → then_some (leb end (length buffer)) end ≡ place_after at (i * (8 + size)) buffer
+    past zero s q =
+        let is : end ≡ at + 0 * (8 + size) = omega (arith, mul-zero (row_told size)) in
+        ap (λ k. then_some (leb k (length buffer)) k) is ∙ some_cond (leb (at + 0 * (8 + size)) (length buffer)) (at + 0 * (8 + size))
+    past (suc i) s q =
+        let t : row_told size ≡ 2 ^ 64 - 1 = omega arith in
+        let far : length buffer < end = omega (arith, mul_comm (row_told size) (suc i), add-mul 1 i (row_told size)) in
+        let past_all : length buffer < at + suc i * (8 + size) = omega (arith, add-mul 1 i (8 + size)) in
+        ap (λ b. then_some b end) (lt-leb end (length buffer) far) ∙ sym (cond-false _ _ _ (lt-leb (at + suc i * (8 + size)) (length buffer) past_all))
 
 pub size_told : (size n : ℕ) → min (min (row_told size * n) (2 ^ 64 - 1) + 9) (2 ^ 64 - 1) ≡ told (9 + n * (8 + size))
 size_told size n = elim (cases_lt (8 + size) (2 ^ 64)) [
@@ -84,10 +83,10 @@ size_told size n = elim (cases_lt (8 + size) (2 ^ 64)) [
 
 -- ---- places
 
-pub place_some : (n at size : ℕ) (buffer : List ℕ) → Some n ≡ place_after at size buffer → n ≡ at + size
+pub place_some : (n at size : ℕ) (buffer : List ℕ) → Some n ≡ place_after at size buffer → (n ≡ at + size) × (at + size ≤ length buffer)
 place_some n at size buffer e = elim (cases_lt (length buffer) (at + size)) [
   | inl l ↦ let q = cond-false _ (Some (at + size)) None (lt-leb (at + size) (length buffer) l) in let z : ◌≡◌ {A = ℕ} 0 1 = cc in absurd (omega arith)
-  | inr l ↦ let q = cond-true _ (Some (at + size)) None (le-leb (at + size) (length buffer) l) in cc
+  | inr l ↦ let q = cond-true _ (Some (at + size)) None (le-leb (at + size) (length buffer) l) in (cc, l)
 ]
 
 pub place_none : (at size : ℕ) (buffer : List ℕ) → None ≡ place_after at size buffer → length buffer < at + size
@@ -113,6 +112,9 @@ pub all_counted : {X : Type 0} (f : Format) (view : X → Row) → ((x : X) → 
 all_counted f view c [] = tt
 all_counted f view c (x ∷ xs) = (c x, all_counted f view c xs)
 
+pub length_all : {X : Type 0} (f : Format) → Lawful f → (view : X → Row) → ((x : X) → Counted f (view x).load) → (xs : List X) → length (flat_map (row_bytes f) (map view xs)) ≡ length xs * row_size f
+length_all f lawful view c xs = length_rows f lawful (map view xs) (all_counted f view c xs) ∙ ap (λ (n : ℕ). n * row_size f) (length-map xs view)
+
 module _ {X : Type 0} (f : Format) (lawful : Lawful f) (view : X → Row) (counted : (x : X) → Counted f (view x).load) (xs : List X) (start : ℕ) (buffer : List ℕ) (room : start + length xs * row_size f ≤ length buffer) where
   -- the bytes of the first i rows
   abbrev pub front : ℕ → List ℕ
@@ -120,8 +122,7 @@ module _ {X : Type 0} (f : Format) (lawful : Lawful f) (view : X → Row) (count
 
   pub length_front : (i : ℕ) → i ≤ length xs → length (front i) ≡ i * row_size f
   length_front i l =
-      length_rows f lawful (map view (take i xs)) (all_counted f view counted (take i xs))
-      ∙ ap (λ (n : ℕ). n * row_size f) (length-map (take i xs) view ∙ (length-take i xs ∙ omega arith))
+      length_all f lawful view counted (take i xs) ∙ ap (λ (n : ℕ). n * row_size f) (length-take i xs ∙ omega arith)
 
   pub front_fits : (i : ℕ) → i ≤ length xs → start + i * row_size f ≤ length buffer
   front_fits i l = omega (arith, mul-le-mul_right (row_size f) l)

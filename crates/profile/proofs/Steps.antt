@@ -1,12 +1,12 @@
 -- The rows of a profile read one by one.
-use Rattle.std.proofs.Common.{◌≡◌, ℕ, zero, suc, ◌-◌, ◌<◌, List, [], ◌∷◌, ◌++◌, length, drop, Some, None, Ok, Err, Option, Result, sym, refl, ap, ◌∙◌, subst, arith}
+use Rattle.std.proofs.Common.{◌≡◌, ℕ, zero, suc, ◌+◌, ◌-◌, ◌<◌, List, [], ◌∷◌, ◌++◌, length, drop, Some, None, Ok, Err, Option, Result, sym, refl, ap, ◌∙◌, subst, add-one, arith}
 use Rattle.std.specs.Result.{result_err}
 use Rattle.std.proofs.lemmas.List.{append_assoc, append-nil}
 use Rattle.terms.specs.declared.refusal.Refusal.{Refusal}
 use Rattle.terms.specs.declared.refusal.Refusal.TheVariants.{ProfileLength}
 use Rattle.loads.specs.Formats.{Format}
-use Rattle.profile.specs.Rows.{Row, Profile}
-use Rattle.profile.specs.Wire.{row_size, Header, read_header, next_row, prepend, then_rows, read_rows, as_profile, then_body, read_profile, header_read}
+use Rattle.profile.specs.Rows.{Row, Profile, row_fault, unless}
+use Rattle.profile.specs.Wire.{row_size, Header, read_header, row_at, checked, next_row, prepend, then_rows, read_rows, as_profile, then_body, read_profile, header_read}
 
 -- no value is two constructors
 pub ok_not_err : {X Y : Type 0} {x : X} {y : Y} → ◌≡◌ {A = Result X Y} (Err y) (Ok x) → ⊥
@@ -15,6 +15,11 @@ ok_not_err e = let z : ◌≡◌ {A = ℕ} 0 1 = cc in omega arith
 pub prepend_ok : (r : Row) (x : Result (List Row) Refusal) (rs : List Row) → prepend r x ≡ Ok rs → (qs : List Row) × (x ≡ Ok qs) × (r ∷ qs ≡ rs)
 prepend_ok r (Err g) rs h = absurd (ok_not_err h)
 prepend_ok r (Ok qs) rs h = (qs, refl, (cc))
+
+-- a fault, whatever it was asked of
+pub unless_err : {X Y : Type 0} (o : Option Refusal) (e : Refusal) (x : X) (y : Y) → Err e ≡ unless o x → unless o y ≡ Err e
+unless_err None e x y h = absurd (ok_not_err h)
+unless_err (Some g) e x y h = (cc)
 
 module _ (f : Format) (h : ℕ) where
   -- as many rows as were asked for
@@ -52,6 +57,22 @@ module _ (f : Format) (h : ℕ) where
   rows_end zero before [] e l = refl
   rows_end zero before (b ∷ bs) e l = absurd (omega arith)
   rows_end (suc n) before bs e l = absurd (omega arith)
+
+-- ---- one row, within what it has to keep to
+
+module _ (f : Format) (h n : ℕ) (before : Option Row) (bs : List ℕ) where
+  -- a row, and then the others
+  next_is : read_rows f h before (n + 1) bs ≡ then_rows (next_row f h before bs) (λ r. read_rows f h (Some r) n (drop (row_size f) bs))
+  next_is = rw add-one refl
+
+  pub row_missing : (e : Refusal) → Err e ≡ row_at f bs → read_rows f h before (n + 1) bs ≡ Err e
+  row_missing e q = next_is ∙ ap (λ x. then_rows (checked h before x) (λ r. read_rows f h (Some r) n (drop (row_size f) bs))) (sym q)
+
+  pub row_refused : {X : Type 0} (r : Row) (e : Refusal) (x : X) → Ok r ≡ row_at f bs → Err e ≡ unless (row_fault h before r) x → read_rows f h before (n + 1) bs ≡ Err e
+  row_refused r e x q k =
+      next_is
+      ∙ (ap (λ x. then_rows (checked h before x) (λ r. read_rows f h (Some r) n (drop (row_size f) bs))) (sym q)
+      ∙ ap (λ x. then_rows x (λ r. read_rows f h (Some r) n (drop (row_size f) bs))) (unless_err (row_fault h before r) e x r k))
 
 -- ---- only whether rows can be read
 
@@ -101,30 +122,15 @@ rows_ended f h (suc n) before bs rs qs e q = absurd (omega arith)
 
 -- ---- from the header of a profile to its rows
 
-pub header_refused : (x : Result Profile Refusal) (e : Refusal) → Err e ≡ header_read x → x ≡ Err e
-header_refused (Ok p) e q = absurd (ok_not_err q)
-header_refused (Err g) e q = (cc)
-
 pub record Passed (f : Format) (bs : List ℕ) (h : Header) : Type 0 where
   pub rows : List Row
   pub read : read_rows f h.horizon None h.count (drop 9 bs) ≡ Ok rows
   pub is : read_profile f bs ≡ Ok (record { horizon = h.horizon; rows = rows })
 
-abbrev header : ℕ → ℕ → Header
-header horizon count = record { horizon = horizon; count = count }
-
-pub header_passed : (f : Format) (bs : List ℕ) (h : Header) → Ok h ≡ header_read (read_profile f bs) → Passed f bs h
-header_passed f bs h q = go (read_header f bs) refl q
+-- of a profile that was read
+pub passed : (f : Format) (bs : List ℕ) (h : Header) → Ok h ≡ read_header f bs → (p : Profile) → read_profile f bs ≡ Ok p → Passed f bs h
+passed f bs h header p e = go (read_rows f h.horizon None h.count (drop 9 bs)) refl (sym (read_is f bs h header) ∙ e)
   where
-    body : (k : Header) → read_header f bs ≡ Ok k → (x : Result (List Row) Refusal) → read_rows f k.horizon None k.count (drop 9 bs) ≡ x
-        → Ok h ≡ header_read (as_profile k.horizon x) → Passed f bs h
-    body k e (Err g) p q = absurd (ok_not_err (sym q))
-    body k e (Ok rs) p q =
-        let n = rows_many f k.horizon k.count None (drop 9 bs) rs p in
-        let is : record { horizon = k.horizon; count = length rs } ≡ h = (let z = sym q in cc) in
-        let same : k ≡ h = ap (λ c. header k.horizon c) (sym n) ∙ is in
-        subst (Passed f bs) same (record { rows = rs; read = p; is = ap (then_body f (drop 9 bs)) e ∙ ap (as_profile k.horizon) p })
-
-    go : (x : Result Header Refusal) → read_header f bs ≡ x → Ok h ≡ header_read (then_body f (drop 9 bs) x) → Passed f bs h
-    go (Err g) e q = absurd (ok_not_err (sym q))
-    go (Ok k) e q = body k e (read_rows f k.horizon None k.count (drop 9 bs)) refl q
+    go : (x : Result (List Row) Refusal) → read_rows f h.horizon None h.count (drop 9 bs) ≡ x → as_profile h.horizon x ≡ Ok p → Passed f bs h
+    go (Err g) q r = absurd (ok_not_err r)
+    go (Ok rs) q r = record { rows = rs; read = q; is = read_is f bs h header ∙ ap (as_profile h.horizon) q }

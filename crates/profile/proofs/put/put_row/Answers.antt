@@ -1,30 +1,33 @@
-use Rattle.std.proofs.Common.{◌≡◌, ◌+◌, ◌-◌, length, take, drop, Some, sym, ap, ◌∙◌, arith, length-drop}
-use Rattle.std.proofs.lemmas.List.{take_rest}
-use Rattle.std.proofs.lemmas.Bool.{leb-true, leb-false}
+use Rattle.std.proofs.Common.{◌≡◌, ◌+◌, ◌++◌, length, sym, ap, ◌∙◌, ap₂, arith, length-append}
+use Rattle.loads.specs.Digits.{to_bytes}
+use Rattle.loads.specs.Places.{length_to_bytes}
 use Rattle.profile.specs.Views.{row_of}
-use Rattle.profile.specs.Wire.{row_bytes, row_size}
-use Rattle.profile.proofs.Putting.{put_at_is, after_some, after_none}
+use Rattle.profile.specs.Wire.{row_bytes, row_size, put_at}
+use Rattle.profile.proofs.Putting.{put_at_short, put_at_is, put_more}
+use Rattle.profile.proofs.Rowwise.{place_some, place_none, length_put_at}
+use Rattle.profile.proofs.Written.{length_row}
 use Rattle.profile.proofs.put.put_row.Goals as goal
 
-pub returns-then-not-put_row_front : goal.returns-then-not-put_row_front
-returns-then-not-put_row_front g c =
-    let f = g.K.Kind.format in
-    let l : length (take (length c.args.buffer.now - c.args.at) (drop c.args.at c.args.buffer.now)) ≡ length c.args.buffer.now - c.args.at
-    = ap length (take_rest c.args.buffer.now c.args.at) ∙ length-drop c.args.at c.args.buffer.now in
-    let h = leb-false _ _ (sym c.if-not-put_row_front.ensures.fits) in
-    record {
-      place = after_none c.args.at (row_size f) c.args.buffer.now (omega arith);
-      after = put_at_is c.args.at (row_bytes f (row_of g.K.Kind.counts c.args.row)) c.args.buffer.now _ c.if-buffer-at.false c.put_row_front.ensures.after;
-    }
+pub returns-in_err-end-clause-after : goal.returns-in_err-end-clause-after
+returns-in_err-end-clause-after g c =
+    let r = row_of g.K.Kind.counts c.args.row in
+    let n = length_row g.K.Kind.format g.met.K.Kind.lawful r (g.met.K.Kind.counted c.args.row.load) in
+    let s = place_none c.args.at _ c.args.buffer.now c.in_err-end.ensures in
+    sym (put_at_short c.args.at (row_bytes g.K.Kind.format r) c.args.buffer.now (omega arith))
 
-pub returns : goal.returns
-returns g c =
+pub returns-clause-after : goal.returns-clause-after
+returns-clause-after g c =
     let f = g.K.Kind.format in
-    let l : length (take (length c.args.buffer.now - c.args.at) (drop c.args.at c.args.buffer.now)) ≡ length c.args.buffer.now - c.args.at
-    = ap length (take_rest c.args.buffer.now c.args.at) ∙ length-drop c.args.at c.args.buffer.now in
-    let h = leb-true _ _ (sym c.if-not-put_row_front.ensures.fits) in
-    let end : (c.args.at + 8) + c.image_len.result ≡ c.args.at + row_size f = omega (arith, c.image_len.ensures) in
-    record {
-      place = ap Some end ∙ after_some c.args.at (row_size f) c.args.buffer.now (omega arith);
-      after = put_at_is c.args.at (row_bytes f (row_of g.K.Kind.counts c.args.row)) c.args.buffer.now _ c.if-buffer-at.false c.put_row_front.ensures.after;
-    }
+    let buffer = c.args.buffer.now in
+    let one = c.put_bytes.new.buffer in
+    let words = to_bytes 4 c.args.row.offset ++ to_bytes 4 c.args.row.length in
+    let image = f.image (g.K.Kind.counts c.args.row.load) in
+    let l : length words ≡ 8 = length-append (to_bytes 4 c.args.row.offset) (to_bytes 4 c.args.row.length) ∙ ap₂ ◌+◌ (length_to_bytes 4 c.args.row.offset) (length_to_bytes 4 c.args.row.length) in
+    let i : length image ≡ f.size = g.met.K.Kind.lawful.sized _ (g.met.K.Kind.counted c.args.row.load) in
+    let fits = (place_some _ c.args.at _ buffer c.in_ok-end.ensures).1 in
+    let place = (place_some _ c.args.at _ buffer c.in_ok-place.ensures.place).0 in
+    let first : one ≡ put_at c.args.at words buffer = c.put_bytes.ensures.after ∙ ap (λ bs. put_at c.args.at bs buffer) c.word_pair.ensures in
+    let at : c.in_ok-place.place ≡ c.args.at + length words = place ∙ ap (λ bs. c.args.at + length bs) c.word_pair.ensures in
+    let same : length one ≡ length buffer = ap length first ∙ length_put_at c.args.at words buffer (omega arith) in
+    put_more c.args.at words image buffer one _ c.in_ok-place.place first at (omega arith)
+    (put_at_is c.in_ok-place.place image one c.put.new.buffer (omega arith) c.put.ensures.after)

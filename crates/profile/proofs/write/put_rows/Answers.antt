@@ -25,7 +25,7 @@ loop-row-preserved g c room =
     let f = g.K.Kind.format in
     let view = row_of g.K.Kind.counts in
     let i = c.loop-row.invariant room in (
-      omega (arith, place_some c.in_ok-at.at c.loop-row.at (row_size f) c.loop-row.buffer c.in_ok-at.ensures.place, add-mul c.loop-row.row-index 1 (row_size f)),
+      omega (arith, (place_some c.in_ok-at.at c.loop-row.at (row_size f) c.loop-row.buffer c.in_ok-at.ensures.place).0, add-mul c.loop-row.row-index 1 (row_size f)),
       rows_put_more f g.met.K.Kind.lawful view (λ x. g.met.K.Kind.counted x.load) c.args.rows.now c.args.start c.args.buffer.now room
           c.loop-row.row-index c.loop-row.at c.row-item.result c.loop-row.buffer c.put_row.new.buffer c.loop-row-test.true c.row-item.is i.0 i.1 c.in_ok-at.ensures.after,
     )
