@@ -1,20 +1,20 @@
 -- A whole profile written: its answer, its bytes, and that they read back.
-use Rattle.std.proofs.Common.{◌≡◌, ℕ, ◌+◌, ◌*◌, ◌≤◌, true, false, ltb, leb, List, [], ◌∷◌, ◌++◌, length, take, drop, Some, None, Ok, Err, Option, Result, sym, refl, ap, ◌∙◌, ap₂, inl, inr, arith, length-append}
+use Rattle.std.proofs.Common.{◌≡◌, ℕ, ◌≤◌, true, ltb, leb, List, [], ◌∷◌, ◌++◌, length, take, drop, Some, None, Ok, Option, Result, sym, refl, ap, ◌∙◌, inl, inr, arith}
 use Rattle.std.specs.Option.{ok_or}
 use Rattle.std.specs.Result.{IfOk}
 use Rattle.std.specs.List.{flat_map, AllByRecursion}
 use Rattle.std.proofs.lemmas.List.{take_at}
-use Rattle.std.proofs.lemmas.Bool.{cases_Bool, and_parts, leb-true, cond-true, cond-false}
+use Rattle.std.proofs.lemmas.Bool.{cases_Bool, and_parts, leb-true, cond-false}
 use Rattle.terms.specs.declared.refusal.Refusal.{Refusal}
-use Rattle.terms.specs.declared.refusal.Refusal.TheVariants.{ProfileHorizon, TooShort}
-use Rattle.loads.specs.Formats.{Format, Counted, Lawful, told, put_front}
+use Rattle.terms.specs.declared.refusal.Refusal.TheVariants.{ProfileHorizon}
+use Rattle.loads.specs.Formats.{Format, Counted, Lawful, put_front}
 use Rattle.loads.proofs.Fronts.{put_long, put_short}
 use Rattle.profile.specs.Rows.{Row, Profile, rows_fault, lawful_horizon, profile_fault, unless}
-use Rattle.profile.specs.Wire.{row_bytes, row_size, header_bytes, profile_bytes, profile_size, written, place_after, read_profile}
+use Rattle.profile.specs.Wire.{row_bytes, header_bytes, profile_bytes, profile_size, written, place_after, read_profile}
 use Rattle.profile.specs.Laws.{Writable, FitsBytes}
 use Rattle.profile.proofs.Once.{cut, none_not_some, rows_free}
 use Rattle.profile.proofs.Rowwise.{rows_few, place_some, place_none}
-use Rattle.profile.proofs.Written.{length_header, length_profile, length_rows, reads_back}
+use Rattle.profile.proofs.Written.{length_profile, reads_back}
 
 -- ---- what bytes can hold
 

@@ -7,12 +7,19 @@ ghost use Rattle.profile.specs.Wire.{row_bytes, row_size, header_bytes, put_at, 
 
 use crate::row::{Header, Row};
 use loads::kind::Kind;
+use loads::word::put_front;
+
+/// The mark, the horizon and the number of rows.
+pub(crate) const HEADER_LEN: usize = 9;
+
+/// The offset and the length of a row, which stand before its image.
+const SPAN_LEN: usize = 8;
 
 /// How many bytes a row has, or the largest number where they are more.
 pub(crate) fn row_len<K: Kind>() -> u64
     ensures { result ≡ told (row_size K.Kind.format) }
 {
-    K::image_len().saturating_add(8)
+    K::image_len().saturating_add(SPAN_LEN as u64)
 }
 
 /// The place after so many rows from a place on, if the buffer goes so far.
@@ -24,25 +31,12 @@ pub(crate) fn rows_end<K: Kind>(at: usize, rows: usize, buffer: &[u8]) -> Option
     (end <= buffer.len() as u64).then_some(end as usize)
 }
 
-fn word_pair(first: u32, second: u32) -> [u8; 8]
+fn word_pair(first: u32, second: u32) -> [u8; SPAN_LEN]
     ensures { result ≡ to_bytes 4 first ++ to_bytes 4 second }
 {
     let [a, b, c, d] = first.to_be_bytes();
     let [e, f, g, h] = second.to_be_bytes();
     [a, b, c, d, e, f, g, h]
-}
-
-// The bytes at a place of the buffer, and the place after them; nothing where they do not fit there.
-fn put_bytes(bytes: &[u8], at: usize, buffer: &mut [u8]) -> Option<usize>
-    ensures place { result ≡ place_after at (length bytes.now) buffer.old }
-    ensures after { buffer.new ≡ put_at at bytes.now buffer.old }
-{
-    let end = at.checked_add(bytes.len())?;
-    if buffer.len() < end {
-        return None;
-    }
-    buffer[at..end].copy_from_slice(bytes);
-    Some(end)
 }
 
 /// Writes the header at the front of the buffer and tells the place after it; nothing where the buffer is too short.
@@ -51,16 +45,18 @@ pub fn put_header<K: Kind>(header: Header, buffer: &mut [u8]) -> Option<usize>
     ensures after { buffer.new ≡ put_front (header_bytes K.Kind.format header.horizon header.count) buffer.old }
 {
     let [h0, h1, h2, h3, n0, n1, n2, n3] = word_pair(header.horizon, header.count);
-    let bytes = [K::kind_mark(), h0, h1, h2, h3, n0, n1, n2, n3];
-    put_bytes(&bytes, 0, buffer)
+    put_front(&[K::MARK, h0, h1, h2, h3, n0, n1, n2, n3], buffer).ok()?;
+    Some(HEADER_LEN)
 }
 
 /// Writes the row at a place of the buffer and tells the place after it; nothing where it does not fit there.
+// The place stands beside the buffer, and no writer holds both: a row goes to any place of any buffer.
 pub fn put_row<K: Kind>(row: Row<K::Load>, at: usize, buffer: &mut [u8]) -> Option<usize>
     ensures place { result ≡ place_after at (row_size K.Kind.format) buffer.old }
     ensures after { buffer.new ≡ put_at at (row_bytes K.Kind.format (row_of K.Kind.counts row)) buffer.old }
 {
     let end = rows_end::<K>(at, 1, buffer)?;
-    let place = put_bytes(&word_pair(row.offset, row.length), at, buffer)?;
-    K::put(row.load, &mut buffer[place..]).then_some(end)
+    put_front(&word_pair(row.offset, row.length), &mut buffer[at..]).ok()?;
+    K::put(row.load, &mut buffer[at + SPAN_LEN..]).ok()?;
+    Some(end)
 }

@@ -16,11 +16,11 @@ use terms::refusal::Refusal;
 pub fn check<K: Kind>(bytes: &[u8]) -> Result<Header, Refusal>
     ensures { answered header_of (λ e. e) result ≡ header_read (read_profile K.Kind.format bytes.now) }
 {
-    let (header, mut walk) = Walk::start::<K>(bytes)?;
+    let (header, mut walk) = Walk::<K>::start(bytes)?;
     for _ in 0..header.count {
-        walk.next_row::<K>()?;
+        walk.next_row()?;
     }
-    walk.finish::<K>()?;
+    walk.finish()?;
     Ok(header)
 }
 
@@ -28,10 +28,10 @@ pub fn check<K: Kind>(bytes: &[u8]) -> Result<Header, Refusal>
 fn read_checked<K: Kind>(heap: Global, bytes: &[u8]) -> Result<Profile<K::Load>, ReadError>
     ensures { (p : PlainProfile) → read_profile K.Kind.format bytes.now ≡ Ok p → Tells K.Kind.counts (read_profile K.Kind.format bytes.now) result }
 {
-    let (header, mut walk) = Walk::start::<K>(bytes)?;
+    let (header, mut walk) = Walk::<K>::start(bytes)?;
     let mut rows = Vec::new(heap);
     for _ in 0..header.count {
-        rows.push(walk.next_row::<K>()?)?;
+        rows.push(walk.next_row()?)?;
     }
     Ok(Profile {
         horizon: header.horizon,

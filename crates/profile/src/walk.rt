@@ -8,15 +8,8 @@ ghost use Rattle.profile.specs.Wire.{read_header, refusal_of, row_at, row_size, 
 use crate::limits::Limits;
 use crate::row::{Header, Row};
 use loads::kind::{Kind, LoadFault};
+use loads::word::split_u32;
 use terms::refusal::Refusal;
-
-// The number in the first 4 bytes, and the bytes after them.
-fn split_u32(bytes: &[u8]) -> Option<(u32, &[u8])>
-    ensures { MatchOption result (length bytes.now < 4) (λ p. (4 ≤ length bytes.now) × (p.0 ≡ from_bytes (take 4 bytes.now)) × (p.1.now ≡ drop 4 bytes.now)) }
-{
-    let (number, rest) = bytes.split_first_chunk::<4>()?;
-    Some((u32::from_be_bytes(*number), rest))
-}
 
 // The mark, the horizon with the number of rows, and the bytes after them.
 fn split_header(bytes: &[u8]) -> Option<(u8, Header, &[u8])>
@@ -55,22 +48,20 @@ fn split_row<K: Kind>(bytes: &[u8]) -> Result<(Row<K::Load>, &[u8]), Refusal>
 }
 
 /// What the next row has to keep to, and the bytes from it on.
-#[derive(Clone, Copy)]
-pub(crate) struct Walk<'b, L> {
-    limits: Limits<L>,
+#[derive(Drop)]
+pub(crate) struct Walk<'b, K: Kind> {
+    limits: Limits<K>,
     rest: &'b [u8],
 }
 
-impl<'b, L: Copy> Walk<'b, L> {
+impl<'b, K: Kind> Walk<'b, K> {
     /// The header, and the walk that begins with the first row after it.
-    pub(crate) fn start<K: Kind<Load = L>>(
-        bytes: &'b [u8],
-    ) -> Result<(Header, Walk<'b, L>), Refusal>
+    pub(crate) fn start(bytes: &'b [u8]) -> Result<(Header, Walk<'b, K>), Refusal>
         ensures header { answered (λ p. header_of p.0) (λ e. e) result ≡ read_header K.Kind.format bytes.now }
         ensures rows { IfOk result (λ p. (n : ℕ) → read_on K.Kind.format K.Kind.counts p.1.limits p.1.rest.now n ≡ read_rows K.Kind.format p.0.horizon None n (drop 9 bytes.now)) }
     {
         let (mark, header, rest) = split_header(bytes).ok_or(Refusal::ProfileLength)?;
-        if mark != K::kind_mark() {
+        if mark != K::MARK {
             return Err(Refusal::OtherMark);
         }
         let limits = Limits::new(header.horizon)?;
@@ -78,17 +69,17 @@ impl<'b, L: Copy> Walk<'b, L> {
     }
 
     /// The row at the front of the rest, if it keeps to the limits; the walk goes on behind it.
-    pub(crate) fn next_row<K: Kind<Load = L>>(&mut self) -> Result<Row<L>, Refusal>
+    pub(crate) fn next_row(&mut self) -> Result<Row<K::Load>, Refusal>
         ensures { (n : ℕ) → read_on K.Kind.format K.Kind.counts self.old.limits self.old.rest.now (n + 1) ≡ then_rows (answered (row_of K.Kind.counts) (λ e. e) result) (λ _. read_on K.Kind.format K.Kind.counts self.new.limits self.new.rest.now n) }
     {
         let (row, rest) = split_row::<K>(self.rest)?;
-        self.limits.admit::<K>(row)?;
+        self.limits.admit(row)?;
         self.rest = rest;
         Ok(row)
     }
 
     /// Refuses bytes after the last row.
-    pub(crate) fn finish<K: Kind<Load = L>>(&self) -> Result<(), Refusal>
+    pub(crate) fn finish(&self) -> Result<(), Refusal>
         ensures { answered (λ _. []) (λ e. e) result ≡ read_on K.Kind.format K.Kind.counts self.now.limits self.now.rest.now 0 }
     {
         if self.rest.is_empty() {

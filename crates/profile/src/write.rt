@@ -8,13 +8,10 @@ ghost use Rattle.profile.specs.Views.{row_of, profile_of};
 ghost use Rattle.profile.specs.Wire.{row_bytes, row_size, header_bytes, profile_bytes, profile_size, write_answer, written, put_at, place_after, read_profile};
 
 use crate::limits::Limits;
-use crate::put::{put_header, put_row, row_len, rows_end};
+use crate::put::{HEADER_LEN, put_header, put_row, row_len, rows_end};
 use crate::row::{Header, Row};
 use loads::kind::Kind;
 use terms::refusal::Refusal;
-
-/// Mark, horizon and number of rows.
-const HEADER_LEN: usize = 9;
 
 /// How many bytes a profile of so many rows has, or the largest number where they are more.
 pub fn profile_len<K: Kind>(rows: usize) -> u64
@@ -24,13 +21,13 @@ pub fn profile_len<K: Kind>(rows: usize) -> u64
     rows_len.saturating_add(HEADER_LEN as u64)
 }
 
-// Why the horizon and the rows are no profile, if they are none.
+// Refuses a horizon and rows that are no profile.
 fn check_rows<K: Kind>(horizon: u32, rows: &[Row<K::Load>]) -> Result<(), Refusal>
     ensures { result ≡ unless (profile_fault (profile_of K.Kind.counts horizon rows.now)) tt }
 {
-    let mut limits = Limits::new(horizon)?;
+    let mut limits = Limits::<K>::new(horizon)?;
     for row in rows {
-        limits.admit::<K>(*row)?;
+        limits.admit(*row)?;
     }
     Ok(())
 }
@@ -73,7 +70,6 @@ pub fn write<K: Kind>(
     check_rows::<K>(horizon, rows)?;
     // Rows without fault have a minute each below the horizon, so 32 bits hold their number.
     let count = rows.len() as u32;
-    put_profile::<K>(Header { horizon, count }, rows, buffer).ok_or(Refusal::TooShort(profile_len::<
-        K,
-    >(rows.len())))
+    let needed = profile_len::<K>(rows.len());
+    put_profile::<K>(Header { horizon, count }, rows, buffer).ok_or(Refusal::TooShort(needed))
 }

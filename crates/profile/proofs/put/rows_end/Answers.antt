@@ -1,5 +1,4 @@
 use Rattle.std.proofs.Common.{◌≡◌, ◌+◌, ◌*◌, ap, ◌∙◌, arith}
-use Rattle.std.specs.Bool.{then_some}
 use Rattle.profile.proofs.Rowwise.{row_told, end_is}
 use Rattle.profile.proofs.put.rows_end.Goals as goal
 

@@ -1,4 +1,4 @@
-use Rattle.std.proofs.Common.{◌≡◌, ◌+◌, ◌*◌, ◌≤◌, ◌++◌, map, length, sym, ap, ◌∙◌, arith, length-append}
+use Rattle.std.proofs.Common.{◌*◌, ◌++◌, map, length, arith, length-append}
 use Rattle.std.specs.List.{flat_map}
 use Rattle.loads.proofs.Fronts.{put_short, length_put}
 use Rattle.profile.specs.Views.{row_of}
