@@ -1,11 +1,11 @@
 -- Bytes put into a buffer part by part, and at a place.
-use Rattle.std.proofs.Common.{◌≡◌, ℕ, ◌+◌, ◌-◌, ◌<◌, ◌≤◌, cond, leb, List, [], ◌++◌, length, take, drop, Some, None, sym, refl, ap, ◌∙◌, ap₂, inl, inr, zero-add, arith, length-append, length-drop, length-take}
+use Rattle.std.proofs.Common.{◌≡◌, ℕ, ◌+◌, ◌-◌, ◌<◌, ◌≤◌, cond, leb, List, [], ◌++◌, length, take, drop, sym, refl, ap, ◌∙◌, ap₂, inl, inr, zero-add, arith, length-append, length-drop, length-take}
 use borrow.Rule.Slice.PartMut.{put_mid}
 use Rattle.std.proofs.lemmas.List.{take_rest, drop-drop, drop_all, append-nil, append_assoc, take-append-drop, take_at, drop_at}
 use Rattle.std.proofs.lemmas.Bool.{cases_lt, le-leb, lt-leb, cond-true, cond-false}
 use Rattle.loads.specs.Formats.{put_front}
 use Rattle.loads.proofs.Fronts.{put_long, put_short}
-use Rattle.profile.specs.Wire.{put_at, place_after}
+use Rattle.profile.specs.Wire.{put_at}
 
 -- put at place 0, as at the front
 put_at_front : (bs buffer : List ℕ) → put_at 0 bs buffer ≡ put_front bs buffer
@@ -35,12 +35,6 @@ module _ (at : ℕ) (bs buffer : List ℕ) where
             = rw (append-nil, drop-drop) (sym (put_at_long h)) in
             rw (z, p) goal
       ]
-
-pub after_some : (at size : ℕ) (buffer : List ℕ) → at + size ≤ length buffer → Some (at + size) ≡ place_after at size buffer
-after_some at size buffer h = sym (cond-true _ _ _ (le-leb (at + size) (length buffer) h))
-
-pub after_none : (at size : ℕ) (buffer : List ℕ) → length buffer < at + size → None ≡ place_after at size buffer
-after_none at size buffer h = sym (cond-false _ _ _ (lt-leb (at + size) (length buffer) h))
 
 -- ---- one after another
 

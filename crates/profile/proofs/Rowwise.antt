@@ -1,24 +1,18 @@
 -- Rows checked and written one by one, and the room that they want.
-use Rattle.std.proofs.Common.{◌≡◌, ℕ, zero, suc, ◌+◌, ◌-◌, ◌*◌, ◌^◌, ◌<◌, ◌≤◌, min, Bool, true, false, cond, leb, List, [], ◌∷◌, ◌++◌, map, length, get_or, take, drop, Some, None, Option, sym, refl, ap, ◌∙◌, ap₂, inl, inr, mul-le-mul_right, mul_comm, add-mul, mul-zero, arith, length-append, length-drop, length-take}
+use Rattle.std.proofs.Common.{◌≡◌, ℕ, zero, suc, ◌+◌, ◌-◌, ◌*◌, ◌^◌, ◌<◌, ◌≤◌, Bool, true, false, cond, leb, List, [], ◌∷◌, ◌++◌, map, length, get_or, take, drop, Some, None, Option, sym, refl, ap, ◌∙◌, ap₂, inl, inr, mul-le-mul_right, mul_comm, add-mul, mul-zero, arith, length-append, length-drop, length-take}
 use lib.ListN.{length-map}
 use Rattle.std.specs.Bool.{then_some}
 use Rattle.std.specs.List.{flat_map, AllByRecursion}
-use Rattle.std.proofs.lemmas.List.{at_drop_more, flat_map_more, map_more, take-append-drop}
+use Rattle.std.proofs.lemmas.List.{flat_map_more, map_more, take-append-drop}
 use Rattle.std.proofs.lemmas.Bool.{cases_lt, le-leb, lt-leb, cond-true, cond-false}
 use Rattle.loads.specs.Formats.{Format, Counted, Lawful, told}
-use Rattle.profile.specs.Rows.{Row, end_before, row_fault, or_fault, rows_fault}
+use Rattle.profile.specs.Rows.{Row, end_before, rows_fault}
 use Rattle.profile.specs.Wire.{row_bytes, row_size, put_at, place_after}
 use Rattle.profile.proofs.Once.{cut}
 use Rattle.profile.proofs.Putting.{put_at_long, put_more}
 use Rattle.profile.proofs.Written.{length_rows, length_row}
 
 -- ---- faults
-
-pub fault_more : {X : Type 0} (view : X → Row) (h : ℕ) (before : Option Row) (xs : List X) (i : ℕ) (x : X) → i < length xs → x ≡ get_or xs i x
-    → rows_fault h before (map view (drop i xs)) ≡ or_fault (row_fault h before (view x)) (rows_fault h (Some (view x)) (map view (drop (i + 1) xs)))
-fault_more view h before xs i x l e =
-    at_drop_more (λ ys. rows_fault h before (map view ys)) xs i x l
-    ∙ ap (λ y. or_fault (row_fault h before (view y)) (rows_fault h (Some (view y)) (map view (drop (i + 1) xs)))) (sym e)
 
 -- rows without fault have a minute each, below the horizon
 pub rows_few : (h : ℕ) (before : Option Row) (rs : List Row) → rows_fault h before rs ≡ None → end_before before ≤ h → end_before before + length rs ≤ h
@@ -61,21 +55,6 @@ end_is size n at end buffer h e = elim (cases_lt (8 + size) (2 ^ 64)) [
         let far : length buffer < end = omega (arith, mul_comm (row_told size) (suc i), add-mul 1 i (row_told size)) in
         let past_all : length buffer < at + suc i * (8 + size) = omega (arith, add-mul 1 i (8 + size)) in
         ap (λ b. then_some b end) (lt-leb end (length buffer) far) ∙ sym (cond-false _ _ _ (lt-leb (at + suc i * (8 + size)) (length buffer) past_all))
-
-pub size_told : (size n : ℕ) → min (min (row_told size * n) (2 ^ 64 - 1) + 9) (2 ^ 64 - 1) ≡ told (9 + n * (8 + size))
-size_told size n = elim (cases_lt (8 + size) (2 ^ 64)) [
-  | inl s ↦
-      let t : row_told size ≡ 8 + size = omega arith in
-      let e : row_told size * n ≡ n * (8 + size) = ap (λ (d : ℕ). d * n) t ∙ mul_comm (8 + size) n in
-      omega arith
-  | inr s ↦ large n s
-]
-  where
-    large : (i : ℕ) → 2 ^ 64 ≤ 8 + size → min (min (row_told size * i) (2 ^ 64 - 1) + 9) (2 ^ 64 - 1) ≡ told (9 + i * (8 + size))
-    large zero s = omega (arith, mul-zero (row_told size))
-    large (suc i) s =
-        let t : row_told size ≡ 2 ^ 64 - 1 = omega arith in
-        omega (arith, mul_comm (row_told size) (suc i), add-mul 1 i (row_told size), add-mul 1 i (8 + size))
 
 -- ---- places
 

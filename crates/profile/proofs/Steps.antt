@@ -1,9 +1,8 @@
 -- The rows of a profile read one by one.
-use Rattle.std.proofs.Common.{◌≡◌, ℕ, zero, suc, ◌+◌, ◌-◌, ◌<◌, List, [], ◌∷◌, ◌++◌, length, drop, Some, None, Ok, Err, Option, Result, sym, refl, ap, ◌∙◌, add-one, arith}
+use Rattle.std.proofs.Common.{◌≡◌, ℕ, zero, suc, ◌+◌, ◌-◌, ◌<◌, ◌≤◌, List, [], ◌∷◌, ◌++◌, length, drop, Some, None, Ok, Err, Option, Result, sym, refl, ap, ◌∙◌, add-one, arith}
 use Rattle.std.specs.Result.{result_err}
 use Rattle.std.proofs.lemmas.List.{append_assoc, append-nil}
 use Rattle.terms.specs.declared.refusal.Refusal.{Refusal}
-use Rattle.terms.specs.declared.refusal.Refusal.TheVariants.{ProfileLength}
 use Rattle.loads.specs.Formats.{Format}
 use Rattle.profile.specs.Rows.{Row, Profile, row_fault, unless}
 use Rattle.profile.specs.Wire.{row_size, Header, read_header, row_at, checked, next_row, prepend, then_rows, read_rows, as_profile, then_body, read_profile, header_read}
@@ -34,29 +33,6 @@ module _ (f : Format) (h : ℕ) where
       first (Ok r) q next =
           let k = prepend_ok r (read_rows f h (Some r) n (drop (row_size f) bs)) rs q in
           ap length (sym k.2) ∙ ap suc (next r k.0 k.1)
-
-  -- one row more, or a fault
-  pub rows_more : (n : ℕ) (before : Option Row) (bs : List ℕ) (r : Row) → 0 < n → Ok r ≡ next_row f h before bs
-      → read_rows f h before n bs ≡ prepend r (read_rows f h (Some r) (n - 1) (drop (row_size f) bs))
-  rows_more zero before bs r l e = absurd (omega arith)
-  rows_more (suc n) before bs r l e =
-      let k : n ≡ suc n - 1 = omega arith in
-      ap (λ x. then_rows x (λ q. read_rows f h (Some q) n (drop (row_size f) bs))) (sym e)
-      ∙ ap (λ m. prepend r (read_rows f h (Some r) m (drop (row_size f) bs))) k
-
-  pub rows_stop : (n : ℕ) (before : Option Row) (bs : List ℕ) (e : Refusal) → 0 < n → Err e ≡ next_row f h before bs → read_rows f h before n bs ≡ Err e
-  rows_stop zero before bs e l q = absurd (omega arith)
-  rows_stop (suc n) before bs e l q = ap (λ x. then_rows x (λ r. read_rows f h (Some r) n (drop (row_size f) bs))) (sym q)
-
-  pub rows_left : (n : ℕ) (before : Option Row) (bs : List ℕ) → n ≡ 0 → 0 < length bs → read_rows f h before n bs ≡ Err ProfileLength
-  rows_left zero before [] e l = absurd (omega arith)
-  rows_left zero before (b ∷ bs) e l = refl
-  rows_left (suc n) before bs e l = absurd (omega arith)
-
-  pub rows_end : (n : ℕ) (before : Option Row) (bs : List ℕ) → n ≡ 0 → length bs ≡ 0 → read_rows f h before n bs ≡ Ok []
-  rows_end zero before [] e l = refl
-  rows_end zero before (b ∷ bs) e l = absurd (omega arith)
-  rows_end (suc n) before bs e l = absurd (omega arith)
 
 -- ---- one row, within what it has to keep to
 
@@ -115,10 +91,34 @@ pub after_push : (rs : List Row) (r : Row) (x : Result (List Row) Refusal) → a
 after_push rs r (Ok qs) = ap Ok (sym (append_assoc rs (r ∷ []) qs))
 after_push rs r (Err e) = refl
 
-pub rows_ended : (f : Format) (h n : ℕ) (before : Option Row) (bs : List ℕ) (rs qs : List Row) → n ≡ 0 → after rs (read_rows f h before n bs) ≡ Ok qs → rs ≡ qs
-rows_ended f h zero before [] rs qs e q = sym (append-nil rs) ∙ (cc)
-rows_ended f h zero before (b ∷ bs) rs qs e q = absurd (ok_not_err q)
-rows_ended f h (suc n) before bs rs qs e q = absurd (omega arith)
+pub rows_ended : (f : Format) (h : ℕ) (before : Option Row) (bs : List ℕ) (rs qs : List Row) → after rs (read_rows f h before 0 bs) ≡ Ok qs → rs ≡ qs
+rows_ended f h before [] rs qs q = sym (append-nil rs) ∙ (cc)
+rows_ended f h before (b ∷ bs) rs qs q = absurd (ok_not_err q)
+
+-- ---- a row taken from those that are left
+
+module _ (on next : ℕ → Result (List Row) Refusal) (n i : ℕ) (some : i < n) where
+  left_is : n - i ≡ (n - (i + 1)) + 1
+  left_is = omega arith
+
+  pub left_stop : (e : Refusal) → ((k : ℕ) → on (k + 1) ≡ Err e) → on (n - i) ≡ Err e
+  left_stop e stop = ap on left_is ∙ stop (n - (i + 1))
+
+  left_more : (r : Row) → ((k : ℕ) → on (k + 1) ≡ prepend r (next k)) → on (n - i) ≡ prepend r (next (n - (i + 1)))
+  left_more r more = ap on left_is ∙ more (n - (i + 1))
+
+  pub err_more : (r : Row) → ((k : ℕ) → on (k + 1) ≡ prepend r (next k)) → result_err (on (n - i)) ≡ result_err (next (n - (i + 1)))
+  err_more r more = ap result_err (left_more r more) ∙ err_prepend r (next (n - (i + 1)))
+
+  pub after_more : (rs qs : List Row) (r : Row) → qs ≡ rs ++ r ∷ [] → ((k : ℕ) → on (k + 1) ≡ prepend r (next k)) → after rs (on (n - i)) ≡ after qs (next (n - (i + 1)))
+  after_more rs qs r e more =
+      ap (after rs) (left_more r more) ∙ (after_push rs r (next (n - (i + 1))) ∙ ap (λ ps. after ps (next (n - (i + 1)))) (sym e))
+
+pub left_none : (on : ℕ → Result (List Row) Refusal) (n i : ℕ) → n ≤ i → on (n - i) ≡ on 0
+left_none on n i h = let e : n - i ≡ 0 = omega arith in ap on e
+
+pub left_all : (on : ℕ → Result (List Row) Refusal) (n : ℕ) → on n ≡ on (n - 0)
+left_all on n = let e : n ≡ n - 0 = omega arith in ap on e
 
 -- ---- from the header of a profile to its rows
 

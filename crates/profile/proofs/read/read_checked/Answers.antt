@@ -1,25 +1,25 @@
-use Rattle.std.proofs.Common.{◌≡◌, ◌+◌, ◌-◌, map, drop, None, Ok, vec_items, sym, ap, ◌∙◌, ap₂, arith}
+use Rattle.std.proofs.Common.{◌-◌, map, drop, None, Ok, vec_items, sym, ap, ◌∙◌, ap₂, arith}
 use Rattle.std.proofs.lemmas.List.{map_push}
 use Rattle.std.proofs.lemmas.Result.{err_from_is_err_and}
-use Rattle.profile.specs.Views.{row_of, header_of, read_on}
+use Rattle.profile.specs.Views.{row_of, header_of, before_of, read_on}
 use Rattle.profile.specs.Wire.{read_rows}
-use Rattle.profile.proofs.Steps.{ok_not_err, rows_many, rows_ended, after, after_none, after_push, passed}
+use Rattle.profile.proofs.Steps.{ok_not_err, rows_many, rows_ended, after, after_none, after_more, left_stop, left_none, left_all, passed}
 use Rattle.profile.proofs.read.read_checked.Goals as goal
 
 pub loop-init : goal.loop-init
 loop-init g c =
+    let h = c.in_ok-header.header in
     after_none _
     ∙ ap₂ after
     (ap (map (row_of g.K.Kind.counts)) (sym c.new-rows.ensures.items))
-    (ap (λ n. read_rows g.K.Kind.format c.in_ok-header.header.horizon None n (drop 9 c.args.bytes.now)) (omega arith)
-    ∙ sym (c.in_ok-header.ensures.rows (c.in_ok-header.header.count - 0)))
+    (left_all (λ n. read_rows g.K.Kind.format h.horizon None n (drop 9 c.args.bytes.now)) h.count ∙ sym (c.in_ok-header.ensures.rows (h.count - 0)))
 
 pub returns-in_err-next_row : goal.returns-in_err-next_row
 returns-in_err-next_row g c q e =
-    let n = c.in_ok-header.header.count - c.loop.counter in
-    let more : n ≡ (n - 1) + 1 = omega arith in
-    let k = passed g.K.Kind.format c.args.bytes.now (header_of c.in_ok-header.header) c.in_ok-header.ensures.header q e in
-    let stop = ap (read_on g.K.Kind.format g.K.Kind.counts c.loop.walk.limits c.loop.walk.rest.now) more ∙ c.in_err-next_row.ensures (n - 1) in
+    let h = c.in_ok-header.header in
+    let on = read_on g.K.Kind.format g.K.Kind.counts c.loop.walk.limits c.loop.walk.rest.now in
+    let k = passed g.K.Kind.format c.args.bytes.now (header_of h) c.in_ok-header.ensures.header q e in
+    let stop = left_stop on on h.count c.loop.counter (omega arith) _ c.in_err-next_row.ensures in
     absurd (ok_not_err (sym (c.loop.invariant ∙ ap (after (map (row_of g.K.Kind.counts) (vec_items c.loop.rows))) stop) ∙ k.read))
 
 pub returns-in_err-push : goal.returns-in_err-push
@@ -33,19 +33,19 @@ pub loop-preserved : goal.loop-preserved
 loop-preserved g c =
     let view = row_of g.K.Kind.counts in
     let row = c.in_ok-next_row.field-0 in
-    let n = c.in_ok-header.header.count - c.loop.counter in
-    let more : n ≡ (n - 1) + 1 = omega arith in
-    let less : n - 1 ≡ c.in_ok-header.header.count - (c.loop.counter + 1) = omega arith in
-    let on = read_on g.K.Kind.format g.K.Kind.counts c.next_row.new.self.limits c.next_row.new.self.rest.now in
+    let on = read_on g.K.Kind.format g.K.Kind.counts c.loop.walk.limits c.loop.walk.rest.now in
+    let next = read_on g.K.Kind.format g.K.Kind.counts c.next_row.new.self.limits c.next_row.new.self.rest.now in
     c.loop.invariant
-    ∙ (ap (after (map view (vec_items c.loop.rows))) (ap (read_on g.K.Kind.format g.K.Kind.counts c.loop.walk.limits c.loop.walk.rest.now) more ∙ c.in_ok-next_row.ensures (n - 1))
-    ∙ (after_push (map view (vec_items c.loop.rows)) (view row) (on (n - 1))
-    ∙ ap₂ (λ rs m. after rs (on m)) (sym (map_push view (vec_items c.loop.rows) row) ∙ ap (map view) (sym c.in_ok-push.ensures.items)) less))
+    ∙ after_more on next c.in_ok-header.header.count c.loop.counter (omega arith)
+    (map view (vec_items c.loop.rows)) (map view (vec_items c.push.new.self)) (view row)
+    (ap (map view) c.in_ok-push.ensures.items ∙ map_push view (vec_items c.loop.rows) row) c.in_ok-next_row.ensures
 
 pub returns : goal.returns
 returns g c q e =
     let h = c.in_ok-header.header in
+    let on = read_on g.K.Kind.format g.K.Kind.counts c.loop.walk.limits c.loop.walk.rest.now in
+    let rows = map (row_of g.K.Kind.counts) (vec_items c.loop.rows) in
     let k = passed g.K.Kind.format c.args.bytes.now (header_of h) c.in_ok-header.ensures.header q e in
-    k.is
-    ∙ ap (λ rs. Ok (record { horizon = h.horizon; rows = rs }))
-    (sym (rows_ended g.K.Kind.format c.loop.walk.limits.horizon (h.count - c.loop.counter) _ c.loop.walk.rest.now _ k.rows (omega arith) (sym c.loop.invariant ∙ k.read)))
+    let ended = rows_ended g.K.Kind.format c.loop.walk.limits.horizon (before_of g.K.Kind.counts c.loop.walk.limits) c.loop.walk.rest.now rows k.rows
+    (ap (after rows) (sym (left_none on h.count c.loop.counter (omega arith))) ∙ (sym c.loop.invariant ∙ k.read)) in
+    k.is ∙ ap (λ rs. Ok (record { horizon = h.horizon; rows = rs })) (sym ended)
