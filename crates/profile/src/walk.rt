@@ -2,6 +2,7 @@
 ghost use Rattle.std.specs.Prelude.{◌≡◌, ℕ, ◌+◌, ◌<◌, ◌≤◌, [], length, take, drop, slice_index, None, IfOk, MatchOption};
 ghost use Rattle.std.specs.Result.{result_map_both as answered};
 ghost use Rattle.loads.specs.Digits.{from_bytes};
+ghost use Rattle.loads.specs.Formats.{read_front};
 ghost use Rattle.profile.specs.Views.{row_of, header_of, read_on};
 ghost use Rattle.profile.specs.Wire.{read_header, refusal_of, row_at, row_size, read_rows, then_rows};
 
@@ -21,6 +22,16 @@ fn split_header(bytes: &[u8]) -> Option<(u8, Header, &[u8])>
     Some((*mark, Header { horizon, count }, rest))
 }
 
+// The load whose image stands at the front, and the bytes after it.
+fn split_load<K: Kind>(bytes: &[u8]) -> Result<(K::Load, &[u8]), LoadFault>
+    ensures load { answered (λ p. K.Kind.counts p.0) (λ e. e) result ≡ read_front K.Kind.format bytes.now }
+    ensures rest { IfOk result (λ p. p.1.now ≡ drop K.Kind.format.size bytes.now) }
+{
+    let load = K::read(bytes)?;
+    // An image was read, so the bytes are as many.
+    Ok((load, &bytes[K::image_len() as usize..]))
+}
+
 fn load_refusal(fault: LoadFault) -> Refusal
     ensures { result ≡ refusal_of fault }
 {
@@ -36,15 +47,14 @@ fn split_row<K: Kind>(bytes: &[u8]) -> Result<(Row<K::Load>, &[u8]), Refusal>
     ensures rest { IfOk result (λ p. p.1.now ≡ drop (row_size K.Kind.format) bytes.now) }
 {
     let (offset, rest) = split_u32(bytes).ok_or(Refusal::ProfileLength)?;
-    let (length, image) = split_u32(rest).ok_or(Refusal::ProfileLength)?;
-    let load = K::read(image).map_err(load_refusal)?;
+    let (length, rest) = split_u32(rest).ok_or(Refusal::ProfileLength)?;
+    let (load, rest) = split_load::<K>(rest).map_err(load_refusal)?;
     let row = Row {
         offset,
         length,
         load,
     };
-    // An image was read, so the bytes are as many.
-    Ok((row, &image[K::image_len() as usize..]))
+    Ok((row, rest))
 }
 
 /// What the next row has to keep to, and the bytes from it on.
