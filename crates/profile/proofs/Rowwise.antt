@@ -5,11 +5,14 @@ use Rattle.std.specs.Bool.{then_some}
 use Rattle.std.specs.List.{flat_map, AllByRecursion}
 use Rattle.std.proofs.lemmas.List.{flat_map_more, map_more, take-append-drop}
 use Rattle.std.proofs.lemmas.Bool.{cases_lt, le-leb, lt-leb, cond-true, cond-false}
-use Rattle.loads.specs.Formats.{Format, Counted, Lawful, told}
+use borrow.Rule.Slice.PartMut.{put_mid}
+use Rattle.loads.specs.Digits.{to_bytes}
+use Rattle.loads.specs.Formats.{Format, Counted, Lawful, told, put_front}
+use Rattle.loads.specs.Places.{length_to_bytes}
 use Rattle.profile.specs.Rows.{Row, end_before, rows_fault}
 use Rattle.profile.specs.Wire.{row_bytes, row_size, put_at, place_after}
 use Rattle.profile.proofs.Once.{cut}
-use Rattle.profile.proofs.Putting.{put_at_long, put_more}
+use Rattle.profile.proofs.Putting.{put_at_long, put_at_short, put_at_is, put_more}
 use Rattle.profile.proofs.Written.{length_rows, length_row}
 
 -- ---- faults
@@ -31,11 +34,11 @@ some_cond true n = refl
 some_cond false n = refl
 
 -- the length of a row, which stops at the largest number
-abbrev pub row_told : ℕ → ℕ
+abbrev row_told : ℕ → ℕ
 row_told size = told (8 + size)
 
 -- the place after so many rows, none where it is past the buffer
-pub end_is : (size n at end : ℕ) (buffer : List ℕ) → length buffer < 2 ^ 64 - 1 → end ≡ row_told size * n + at
+end_is : (size n at end : ℕ) (buffer : List ℕ) → length buffer < 2 ^ 64 - 1 → end ≡ row_told size * n + at
     → then_some (leb end (length buffer)) end ≡ place_after at (n * (8 + size)) buffer
 end_is size n at end buffer h e = elim (cases_lt (8 + size) (2 ^ 64)) [
   | inl s ↦
@@ -55,6 +58,10 @@ end_is size n at end buffer h e = elim (cases_lt (8 + size) (2 ^ 64)) [
         let far : length buffer < end = omega (arith, mul_comm (row_told size) (suc i), add-mul 1 i (row_told size)) in
         let past_all : length buffer < at + suc i * (8 + size) = omega (arith, add-mul 1 i (8 + size)) in
         ap (λ b. then_some b end) (lt-leb end (length buffer) far) ∙ sym (cond-false _ _ _ (lt-leb (at + suc i * (8 + size)) (length buffer) past_all))
+
+pub end_told : (size n at row len end : ℕ) (buffer : List ℕ) (o : Option ℕ) → length buffer < 2 ^ 64 - 1 → row ≡ row_told size → len ≡ row * n → end ≡ len + at
+    → o ≡ then_some (leb end (length buffer)) end → o ≡ place_after at (n * (8 + size)) buffer
+end_told size n at row len end buffer o h r l e t = t ∙ end_is size n at end buffer h (e ∙ ap (λ k. k + at) (l ∙ ap (λ d. d * n) r))
 
 -- ---- places
 
@@ -80,6 +87,29 @@ length_put_at at bs buffer h =
     ap length (put_at_long at bs buffer h)
     ∙ (length-append (take at buffer) (bs ++ drop (at + length bs) buffer)
     ∙ (ap₂ ◌+◌ (length-take at buffer) (length-append bs (drop (at + length bs) buffer) ∙ ap (λ n. length bs + n) (length-drop (at + length bs) buffer)) ∙ omega arith))
+
+-- ---- one row into a buffer
+
+module _ (f : Format) (lawful : Lawful f) (r : Row) (counted : Counted f r.load) (at : ℕ) (buffer : List ℕ) where
+  pub row_kept : None ≡ place_after at (1 * row_size f) buffer → buffer ≡ put_at at (row_bytes f r) buffer
+  row_kept e =
+      let short = place_none at (1 * row_size f) buffer e in
+      sym (put_at_short at (row_bytes f r) buffer (omega (arith, length_row f lawful r counted)))
+
+  -- offset and length, and then the image after them
+  pub row_put : (end : ℕ) (span front rest : List ℕ) → Some end ≡ place_after at (1 * row_size f) buffer → span ≡ to_bytes 4 r.offset ++ to_bytes 4 r.minutes
+      → front ≡ put_front span (take (length buffer - at) (drop at buffer))
+      → rest ≡ put_front (f.image r.load) (take (length (put_mid at (length buffer - at) buffer front) - (at + 8)) (drop (at + 8) (put_mid at (length buffer - at) buffer front)))
+      → put_mid (at + 8) (length (put_mid at (length buffer - at) buffer front) - (at + 8)) (put_mid at (length buffer - at) buffer front) rest ≡ put_at at (row_bytes f r) buffer
+  row_put end span front rest e s a b =
+      let words = to_bytes 4 r.offset ++ to_bytes 4 r.minutes in
+      let one = put_mid at (length buffer - at) buffer front in
+      let l : length words ≡ 8 = length-append (to_bytes 4 r.offset) (to_bytes 4 r.minutes) ∙ ap₂ ◌+◌ (length_to_bytes 4 r.offset) (length_to_bytes 4 r.minutes) in
+      let i = lawful.sized r.load counted in
+      let fits = (place_some end at (1 * row_size f) buffer e).1 in
+      let first : one ≡ put_at at words buffer = put_at_is at span buffer front (omega arith) a ∙ ap (λ bs. put_at at bs buffer) s in
+      let same : length one ≡ length buffer = ap length first ∙ length_put_at at words buffer (omega arith) in
+      put_more at words (f.image r.load) buffer one _ (at + 8) first (omega arith) (omega arith) (put_at_is (at + 8) (f.image r.load) one rest (omega arith) b)
 
 -- ---- rows into a buffer
 

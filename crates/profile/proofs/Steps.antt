@@ -60,15 +60,16 @@ module _ (f : Format) (bs : List ℕ) (h : Header) (header : Ok h ≡ read_heade
   read_is : read_profile f bs ≡ as_profile h.horizon (read_rows f h.horizon None h.count (drop 9 bs))
   read_is = ap (then_body f (drop 9 bs)) (sym header)
 
-  pub read_refused : (e : Refusal) → result_err (read_rows f h.horizon None h.count (drop 9 bs)) ≡ Some e → Err e ≡ header_read (read_profile f bs)
-  read_refused e q = go (read_rows f h.horizon None h.count (drop 9 bs)) refl q
+  pub read_refused : (left : Result (List Row) Refusal) → result_err (read_rows f h.horizon None h.count (drop 9 bs)) ≡ result_err left → (e : Refusal) → left ≡ Err e
+      → Err e ≡ header_read (read_profile f bs)
+  read_refused left i e q = go (read_rows f h.horizon None h.count (drop 9 bs)) refl (i ∙ ap result_err q)
     where
       go : (x : Result (List Row) Refusal) → read_rows f h.horizon None h.count (drop 9 bs) ≡ x → result_err x ≡ Some e → Err e ≡ header_read (read_profile f bs)
       go (Ok rs) p q = let z : ◌≡◌ {A = ℕ} 0 1 = cc in absurd (omega arith)
       go (Err g) p q = let is : g ≡ e = (cc) in sym (ap header_read (read_is ∙ ap (as_profile h.horizon) p) ∙ ap Err is)
 
-  pub read_passed : result_err (read_rows f h.horizon None h.count (drop 9 bs)) ≡ None → Ok h ≡ header_read (read_profile f bs)
-  read_passed q = go (read_rows f h.horizon None h.count (drop 9 bs)) refl q
+  pub read_passed : (left : Result (List Row) Refusal) → result_err (read_rows f h.horizon None h.count (drop 9 bs)) ≡ result_err left → left ≡ Ok [] → Ok h ≡ header_read (read_profile f bs)
+  read_passed left i q = go (read_rows f h.horizon None h.count (drop 9 bs)) refl (i ∙ ap result_err q)
     where
       go : (x : Result (List Row) Refusal) → read_rows f h.horizon None h.count (drop 9 bs) ≡ x → result_err x ≡ None → Ok h ≡ header_read (read_profile f bs)
       go (Err g) p q = let z : ◌≡◌ {A = ℕ} 0 1 = cc in absurd (omega arith)
@@ -91,9 +92,14 @@ pub after_push : (rs : List Row) (r : Row) (x : Result (List Row) Refusal) → a
 after_push rs r (Ok qs) = ap Ok (sym (append_assoc rs (r ∷ []) qs))
 after_push rs r (Err e) = refl
 
-pub rows_ended : (f : Format) (h : ℕ) (before : Option Row) (bs : List ℕ) (rs qs : List Row) → after rs (read_rows f h before 0 bs) ≡ Ok qs → rs ≡ qs
-rows_ended f h before [] rs qs q = sym (append-nil rs) ∙ (cc)
-rows_ended f h before (b ∷ bs) rs qs q = absurd (ok_not_err q)
+-- the rows that were read are those that were pushed, and no fault came between
+pub rows_ended : (f : Format) (h : ℕ) (before : Option Row) (bs : List ℕ) (x left : Result (List Row) Refusal) (rs qs : List Row) → x ≡ after rs left → left ≡ read_rows f h before 0 bs
+    → x ≡ Ok qs → rs ≡ qs
+rows_ended f h before [] x left rs qs i l q = let e : x ≡ Ok (rs ++ []) = i ∙ ap (after rs) l in sym (append-nil rs) ∙ (cc)
+rows_ended f h before (b ∷ bs) x left rs qs i l q = absurd (ok_not_err (sym (i ∙ ap (after rs) l) ∙ q))
+
+pub not_stopped : (x left : Result (List Row) Refusal) (rs qs : List Row) (e : Refusal) → x ≡ after rs left → left ≡ Err e → x ≡ Ok qs → ⊥
+not_stopped x left rs qs e i l q = ok_not_err (sym (i ∙ ap (after rs) l) ∙ q)
 
 -- ---- a row taken from those that are left
 
@@ -114,11 +120,11 @@ module _ (on next : ℕ → Result (List Row) Refusal) (n i : ℕ) (some : i < n
   after_more rs qs r e more =
       ap (after rs) (left_more r more) ∙ (after_push rs r (next (n - (i + 1))) ∙ ap (λ ps. after ps (next (n - (i + 1)))) (sym e))
 
-pub left_none : (on : ℕ → Result (List Row) Refusal) (n i : ℕ) → n ≤ i → on (n - i) ≡ on 0
-left_none on n i h = let e : n - i ≡ 0 = omega arith in ap on e
+pub left_none : (on : ℕ → Result (List Row) Refusal) (n i : ℕ) → n ≤ i → (x : Result (List Row) Refusal) → x ≡ on 0 → on (n - i) ≡ x
+left_none on n i h x q = let e : n - i ≡ 0 = omega arith in ap on e ∙ sym q
 
-pub left_all : (on : ℕ → Result (List Row) Refusal) (n : ℕ) → on n ≡ on (n - 0)
-left_all on n = let e : n ≡ n - 0 = omega arith in ap on e
+pub left_all : (on next : ℕ → Result (List Row) Refusal) (n : ℕ) → ((k : ℕ) → next k ≡ on k) → on n ≡ next (n - 0)
+left_all on next n same = let e : n ≡ n - 0 = omega arith in ap on e ∙ sym (same (n - 0))
 
 -- ---- from the header of a profile to its rows
 

@@ -1,4 +1,4 @@
-use Rattle.std.proofs.Common.{◌-◌, drop, None, sym, ap, ◌∙◌, arith}
+use Rattle.std.proofs.Common.{◌-◌, drop, None, ap, ◌∙◌, arith}
 use Rattle.std.specs.Result.{result_err}
 use Rattle.std.proofs.lemmas.Result.{err_from_is_err_and}
 use Rattle.profile.specs.Views.{row_of, header_of, read_on}
@@ -9,7 +9,8 @@ use Rattle.profile.proofs.read.check.Goals as goal
 pub loop-init : goal.loop-init
 loop-init g c =
     let h = c.in_ok-header.header in
-    ap result_err (left_all (λ n. read_rows g.K.Kind.format h.horizon None n (drop 9 c.args.bytes.now)) h.count ∙ sym (c.in_ok-header.ensures.rows (h.count - 0)))
+    let on = read_on g.K.Kind.format g.K.Kind.counts c.in_ok-header.walk.limits c.in_ok-header.walk.rest.now in
+    ap result_err (left_all (λ n. read_rows g.K.Kind.format h.horizon None n (drop 9 c.args.bytes.now)) on h.count c.in_ok-header.ensures.rows)
 
 pub returns-in_err-next_row : goal.returns-in_err-next_row
 returns-in_err-next_row g c =
@@ -17,8 +18,8 @@ returns-in_err-next_row g c =
     let on = read_on g.K.Kind.format g.K.Kind.counts c.loop.walk.limits c.loop.walk.rest.now in
     let p = err_from_is_err_and c.from_residual-in_err-next_row.result c.from_residual-in_err-next_row.ensures.1 in
     rw (p.1, p.2)
-    (read_refused g.K.Kind.format c.args.bytes.now (header_of h) c.in_ok-header.ensures.header _
-    (c.loop.invariant ∙ ap result_err (left_stop on on h.count c.loop.counter (omega arith) _ c.in_err-next_row.ensures)))
+    (read_refused g.K.Kind.format c.args.bytes.now (header_of h) c.in_ok-header.ensures.header (on (h.count - c.loop.counter)) c.loop.invariant c.in_err-next_row.field-0.0
+    (left_stop on on h.count c.loop.counter (omega arith) c.in_err-next_row.field-0.0 c.in_err-next_row.ensures))
 
 pub loop-preserved : goal.loop-preserved
 loop-preserved g c =
@@ -32,12 +33,12 @@ returns-in_err-finish g c =
     let on = read_on g.K.Kind.format g.K.Kind.counts c.loop.walk.limits c.loop.walk.rest.now in
     let p = err_from_is_err_and c.from_residual-in_err-finish.result c.from_residual-in_err-finish.ensures.1 in
     rw (p.1, p.2)
-    (read_refused g.K.Kind.format c.args.bytes.now (header_of h) c.in_ok-header.ensures.header _
-    (c.loop.invariant ∙ ap result_err (left_none on h.count c.loop.counter (omega arith) ∙ sym c.in_err-finish.ensures)))
+    (read_refused g.K.Kind.format c.args.bytes.now (header_of h) c.in_ok-header.ensures.header (on (h.count - c.loop.counter)) c.loop.invariant c.in_err-finish.field-0.0
+    (left_none on h.count c.loop.counter (omega arith) _ c.in_err-finish.ensures))
 
 pub returns : goal.returns
 returns g c =
     let h = c.in_ok-header.header in
     let on = read_on g.K.Kind.format g.K.Kind.counts c.loop.walk.limits c.loop.walk.rest.now in
-    read_passed g.K.Kind.format c.args.bytes.now (header_of h) c.in_ok-header.ensures.header
-    (c.loop.invariant ∙ ap result_err (left_none on h.count c.loop.counter (omega arith) ∙ sym c.in_ok-finish.ensures))
+    read_passed g.K.Kind.format c.args.bytes.now (header_of h) c.in_ok-header.ensures.header (on (h.count - c.loop.counter)) c.loop.invariant
+    (left_none on h.count c.loop.counter (omega arith) _ c.in_ok-finish.ensures)
