@@ -1,5 +1,5 @@
 -- The meanings, proved.
-use Rattle.std.proofs.Common.{◌≡◌, ℕ, zero, suc, ◌-◌, ◌/◌, ◌%◌, ◌^◌, ◌<◌, ◌≤◌, ◌&&◌, eqb, leb, ◌⊎◌, List, [], ◌∷◌, length, get_or, replicate, Some, Decides, refl, ap, ◌∙◌, subst, ap₂, inl, inr, div-one, arith}
+use Rattle.std.proofs.Common.{◌≡◌, ℕ, zero, suc, ◌-◌, ◌/◌, ◌%◌, ◌^◌, ◌<◌, ◌≤◌, ◌&&◌, eqb, leb, ◌⊎◌, List, [], ◌∷◌, length, get_or, replicate, Some, Decides, refl, ap, ◌∙◌, subst, inl, inr, div-one, arith}
 use native.Mathlib.Nat.{pow-zero, pow-succ', div-div-eq-div-mul}
 use Rattle.std.proofs.lemmas.List.{get_or-reverse}
 use Rattle.std.proofs.lemmas.Bool.{leb-true, le-leb, false≢true}
@@ -9,6 +9,7 @@ use Rattle.loads.specs.Digits.{digits, level, to_bytes}
 use Rattle.loads.specs.Formats.{Format, Counted, Lawful, zeros}
 use Rattle.loads.specs.Meaning.{Meanings}
 use Rattle.loads.specs.Joins.{length_by_each, within_length}
+use Rattle.loads.specs.Same.{alike_is}
 use Rattle.loads.specs.Places.{length_digits, length_level, length_to_bytes, number_digits, from_to_bytes}
 
 pub decides_leb : (a b : ℕ) → Decides (leb a b) (a ≤ b)
@@ -33,13 +34,6 @@ within_is (x ∷ xs) (y ∷ ys) = Decides-like _ to from (Decides-and _ _ (decid
 
     from : Under (x ∷ xs) (y ∷ ys) → (x ≤ y) × Under xs ys
     from p = (p.1 0 (omega arith), (omega (arith, p.0), λ k h. p.1 (suc k) (omega arith)))
-
-pub alike_is : (xs ys : List ℕ) → Decides (alike xs ys) (xs ≡ ys)
-alike_is [] [] = (λ _. refl, λ _. refl)
-alike_is [] (y ∷ ys) = (λ h. absurd (false≢true h), λ e. absurd (omega (arith, ap length e)))
-alike_is (x ∷ xs) [] = (λ h. absurd (false≢true h), λ e. absurd (omega (arith, ap length e)))
-alike_is (x ∷ xs) (y ∷ ys) =
-    Decides-like _ (λ p. ap₂ ◌∷◌ p.0 p.1) (λ h. ((cc), (cc))) (Decides-and _ _ (Decides-eqb x y) (alike_is xs ys))
 
 empty_is : (xs : List ℕ) → Decides (empty xs) ((k : ℕ) → k < length xs → get_or xs k 0 ≡ 0)
 empty_is [] = (λ _ k h. absurd (omega arith), λ _. refl)

@@ -5,3 +5,4 @@ pub mod Meaning
 pub mod Lawfuls
 pub mod Joins
 pub mod Places
+pub mod Same

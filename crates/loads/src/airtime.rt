@@ -1,19 +1,21 @@
 // Airtime: one resource, the rate of a channel in kbit/s.
-ghost use Rattle.std.specs.Prelude.{◌≡◌, ◌≤◌, [], ◌∷◌, if◌then◌else◌, Some, None, nat_le};
-ghost use Rattle.std.specs.Option.{option_map};
+ghost use Rattle.std.specs.Prelude.{◌≡◌, ◌≤◌, [], ◌∷◌, if◌then◌else◌, Ok, Err, nat_le, refl};
+ghost use Rattle.std.specs.Result.{result_map_both as answered};
 ghost use Rattle.loads.specs.Formats.{airtime_format};
 ghost use Rattle.loads.specs.Lawfuls.{airtime_lawful};
+ghost use Rattle.loads.specs.Same.{alike_one};
 ghost use Rattle.std.proofs.Common.{rules};
 ghost use Rattle.loads.specs.Digits.{level};
+ghost use Rattle.loads.specs.declared.kind.LoadFault.TheVariants.{NoImage};
 
-use crate::kind::{Kind, LoadFault};
-use crate::word::put_u32;
+use crate::kind::{Kind, LoadFault, Short};
+use crate::word::{put_u32, split_u32};
 
 /// The kind of a channel's rate.
 pub struct Airtime;
 
 /// A rate in kbit/s, at most 1,000,000.
-#[derive(Clone, Copy)]
+#[derive(Clone, Copy, PartialEq, Eq, Debug)]
 pub struct AirtimeLoad {
     rate: u32,
     ghost capped: { rate ≤ 1000000 },
@@ -22,18 +24,34 @@ pub struct AirtimeLoad {
 /// The ceiling, in kbit/s.
 const MOST: u32 = 1_000_000;
 
-impl AirtimeLoad {
+/// The rate passes the ceiling.
+#[derive(Clone, Copy, Debug, PartialEq, Eq)]
+pub struct AboveCeiling;
+
+impl From<AboveCeiling> for LoadFault {
+    ghost from_gives = { λ _ r. r ≡ NoImage };
+
+    fn from(_above: AboveCeiling) -> LoadFault {
+        LoadFault::NoImage
+    }
+}
+
+impl TryFrom<u32> for AirtimeLoad {
+    type Error = AboveCeiling;
+
+    ghost try_from_gives = { λ rate r. answered (λ x. x.rate) (λ e. e) r ≡ (if nat_le rate 1000000 then Ok rate else Err (record {})) };
+
     /// So many kbit/s, unless they pass the ceiling.
-    pub fn of(rate: u32) -> Option<AirtimeLoad>
-        ensures { option_map (λ x. x.rate) result ≡ (if nat_le rate 1000000 then Some rate else None) }
-    {
+    fn try_from(rate: u32) -> Result<AirtimeLoad, AboveCeiling> {
         if rate <= MOST {
-            Some(AirtimeLoad { rate })
+            Ok(AirtimeLoad { rate })
         } else {
-            None
+            Err(AboveCeiling)
         }
     }
+}
 
+impl AirtimeLoad {
     /// The kbit/s.
     pub fn rate(self) -> u32
         ensures { result ≡ self.rate }
@@ -47,6 +65,8 @@ impl Kind for Airtime {
 
     const MARK: u8 = 1;
 
+    ghost MARK = { 1 };
+
     ghost format = { airtime_format };
 
     ghost counts = { λ x. x.rate ∷ [] };
@@ -55,43 +75,36 @@ impl Kind for Airtime {
 
     ghost counted = { unfold level in Prim.search rules };
 
-    fn kind_mark() -> u8 {
-        Self::MARK
-    }
+    ghost marked = { refl };
 
-    fn empty() -> AirtimeLoad {
+    ghost same = { λ a b. alike_one a.rate b.rate };
+
+    fn empty() -> Self::Load {
         AirtimeLoad { rate: 0 }
     }
 
-    fn same(a: AirtimeLoad, b: AirtimeLoad) -> bool {
-        a.rate == b.rate
+    fn add(a: Self::Load, b: Self::Load) -> Option<Self::Load> {
+        AirtimeLoad::try_from(a.rate + b.rate).ok()
     }
 
-    fn add(a: AirtimeLoad, b: AirtimeLoad) -> Option<AirtimeLoad> {
-        AirtimeLoad::of(a.rate + b.rate)
+    fn take(a: Self::Load, b: Self::Load) -> Option<Self::Load> {
+        let rate = a.rate.checked_sub(b.rate)?;
+        Some(AirtimeLoad { rate })
     }
 
-    fn take(a: AirtimeLoad, b: AirtimeLoad) -> Option<AirtimeLoad> {
-        if b.rate <= a.rate {
-            AirtimeLoad::of(a.rate - b.rate)
-        } else {
-            None
-        }
-    }
-
-    fn cover(a: AirtimeLoad, b: AirtimeLoad) -> AirtimeLoad {
+    fn cover(a: Self::Load, b: Self::Load) -> Self::Load {
         if a.rate < b.rate { b } else { a }
     }
 
-    fn fits(load: AirtimeLoad, demand: AirtimeLoad, capacity: AirtimeLoad) -> bool {
+    fn fits(load: Self::Load, demand: Self::Load, capacity: Self::Load) -> bool {
         load.rate + demand.rate <= capacity.rate
     }
 
     fn in_the_way(
-        load: AirtimeLoad,
-        demand: AirtimeLoad,
-        capacity: AirtimeLoad,
-        booking: AirtimeLoad,
+        load: Self::Load,
+        demand: Self::Load,
+        capacity: Self::Load,
+        booking: Self::Load,
     ) -> bool {
         capacity.rate < load.rate + demand.rate && 0 < booking.rate
     }
@@ -100,18 +113,12 @@ impl Kind for Airtime {
         4
     }
 
-    fn put(load: AirtimeLoad, buffer: &mut [u8]) -> bool {
+    fn put(load: Self::Load, buffer: &mut [u8]) -> Result<(), Short> {
         put_u32(load.rate, buffer)
     }
 
-    fn read(bytes: &[u8]) -> Result<AirtimeLoad, LoadFault> {
-        let [a, b, c, d, ..] = bytes else {
-            return Err(LoadFault::Short);
-        };
-        let rate = u32::from_be_bytes([*a, *b, *c, *d]);
-        if MOST < rate {
-            return Err(LoadFault::NoImage);
-        }
-        Ok(AirtimeLoad { rate })
+    fn read(bytes: &[u8]) -> Result<Self::Load, LoadFault> {
+        let (rate, _) = split_u32(bytes).ok_or(LoadFault::Short)?;
+        Ok(AirtimeLoad::try_from(rate)?)
     }
 }

@@ -1,30 +1,35 @@
 // Crews: 64 resources, each there once. Crew k is bit k of a word.
-ghost use Rattle.std.specs.Prelude.{◌≡◌, ◌^◌, ◌<◌};
+ghost use Rattle.std.specs.Prelude.{◌≡◌, ◌^◌, ◌<◌, refl};
 ghost use Rattle.loads.specs.Digits.{digits};
 ghost use Rattle.loads.specs.Formats.{crews_format};
 ghost use Rattle.loads.specs.Lawfuls.{crews_lawful};
 ghost use Rattle.loads.specs.Places.{digits_within};
+ghost use Rattle.loads.specs.Same.{alike_digits};
+ghost use Rattle.std.proofs.Common.{lit<};
 
-use crate::kind::{Kind, LoadFault};
+use crate::kind::{Kind, LoadFault, Short};
+use crate::word::put_front;
 
 /// The kind of a pool of 64 crews.
 pub struct Crews;
 
 /// Some of the crews, a bit for each.
-#[derive(Clone, Copy)]
+#[derive(Clone, Copy, PartialEq, Eq, Debug)]
 pub struct CrewsLoad {
     word: u64,
     ghost bound: { word < 2 ^ 64 },
 }
 
-impl CrewsLoad {
+impl From<u64> for CrewsLoad {
+    ghost from_gives = { λ crews r. r.word ≡ crews };
+
     /// The crews whose bits are set.
-    pub fn of(crews: u64) -> CrewsLoad
-        ensures { result.word ≡ crews }
-    {
+    fn from(crews: u64) -> CrewsLoad {
         CrewsLoad { word: crews }
     }
+}
 
+impl CrewsLoad {
     /// The word with a bit for each crew.
     pub fn word(self) -> u64
         ensures { result ≡ self.word }
@@ -38,6 +43,8 @@ impl Kind for Crews {
 
     const MARK: u8 = 2;
 
+    ghost MARK = { 2 };
+
     ghost format = { crews_format };
 
     ghost counts = { λ x. digits 2 64 x.word };
@@ -46,19 +53,15 @@ impl Kind for Crews {
 
     ghost counted = { λ x. digits_within 64 1 x.word };
 
-    fn kind_mark() -> u8 {
-        Self::MARK
-    }
+    ghost marked = { refl };
 
-    fn empty() -> CrewsLoad {
+    ghost same = { λ a b. alike_digits 2 64 a.word b.word (lit< tt) a.bound b.bound };
+
+    fn empty() -> Self::Load {
         CrewsLoad { word: 0 }
     }
 
-    fn same(a: CrewsLoad, b: CrewsLoad) -> bool {
-        a.word == b.word
-    }
-
-    fn add(a: CrewsLoad, b: CrewsLoad) -> Option<CrewsLoad> {
+    fn add(a: Self::Load, b: Self::Load) -> Option<Self::Load> {
         if a.word & b.word != 0 {
             return None;
         }
@@ -66,7 +69,7 @@ impl Kind for Crews {
         Some(CrewsLoad { word })
     }
 
-    fn take(a: CrewsLoad, b: CrewsLoad) -> Option<CrewsLoad> {
+    fn take(a: Self::Load, b: Self::Load) -> Option<Self::Load> {
         if b.word & !a.word != 0 {
             return None;
         }
@@ -74,20 +77,20 @@ impl Kind for Crews {
         Some(CrewsLoad { word })
     }
 
-    fn cover(a: CrewsLoad, b: CrewsLoad) -> CrewsLoad {
+    fn cover(a: Self::Load, b: Self::Load) -> Self::Load {
         let word = a.word | b.word;
         CrewsLoad { word }
     }
 
-    fn fits(load: CrewsLoad, demand: CrewsLoad, capacity: CrewsLoad) -> bool {
+    fn fits(load: Self::Load, demand: Self::Load, capacity: Self::Load) -> bool {
         load.word & demand.word == 0 && (load.word | demand.word) & !capacity.word == 0
     }
 
     fn in_the_way(
-        load: CrewsLoad,
-        demand: CrewsLoad,
-        capacity: CrewsLoad,
-        booking: CrewsLoad,
+        load: Self::Load,
+        demand: Self::Load,
+        capacity: Self::Load,
+        booking: Self::Load,
     ) -> bool {
         let twice = load.word & demand.word;
         let over = (load.word | demand.word) & !capacity.word;
@@ -98,19 +101,12 @@ impl Kind for Crews {
         8
     }
 
-    fn put(load: CrewsLoad, buffer: &mut [u8]) -> bool {
-        if buffer.len() < 8 {
-            return false;
-        }
-        buffer[0..8].copy_from_slice(&load.word.to_be_bytes());
-        true
+    fn put(load: Self::Load, buffer: &mut [u8]) -> Result<(), Short> {
+        put_front(&load.word.to_be_bytes(), buffer)
     }
 
-    fn read(bytes: &[u8]) -> Result<CrewsLoad, LoadFault> {
-        let [a, b, c, d, e, f, g, h, ..] = bytes else {
-            return Err(LoadFault::Short);
-        };
-        let word = u64::from_be_bytes([*a, *b, *c, *d, *e, *f, *g, *h]);
-        Ok(CrewsLoad { word })
+    fn read(bytes: &[u8]) -> Result<Self::Load, LoadFault> {
+        let front = bytes.first_chunk().ok_or(LoadFault::Short)?;
+        Ok(CrewsLoad::from(u64::from_be_bytes(*front)))
     }
 }

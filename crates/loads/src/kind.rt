@@ -1,9 +1,14 @@
 // A kind of load: a fixed list of resources, each with a ceiling, and loads that mean one count for each.
-ghost use Rattle.std.specs.Prelude.{◌≡◌, ℕ, List, length, nat_le};
+ghost use Rattle.std.specs.Prelude.{◌≡◌, ℕ, Bool, List, length, is_ok, nat_le};
 ghost use Rattle.std.specs.Option.{option_map};
 ghost use Rattle.std.specs.Result.{result_map_both as answered};
 ghost use Rattle.loads.specs.Counts.{alike, greater, add_counts, take_counts, fits_counts, in_the_way};
 ghost use Rattle.loads.specs.Formats.{Format, Lawful, Counted, told, zeros, put_front, read_front};
+ghost use Rattle.loads.specs.declared.kind.LoadFault.TheVariants.{Short as TooShort};
+
+/// There are fewer bytes than are to be read or written.
+#[derive(Clone, Copy, PartialEq, Eq, Debug)]
+pub struct Short;
 
 /// Why no load could be read from the front of some bytes.
 #[derive(Clone, Copy, PartialEq, Eq, Debug)]
@@ -14,30 +19,32 @@ pub enum LoadFault {
     NoImage,
 }
 
+impl From<Short> for LoadFault {
+    ghost from_gives = { λ _ r. r ≡ TooShort };
+
+    fn from(_short: Short) -> LoadFault {
+        LoadFault::Short
+    }
+}
+
 /// What a kind does is told by the counts of its loads and by its format, a ghost: its mark, its ceilings, and how
 /// counts are written as bytes.
 pub trait Kind {
-    /// The kind's own form of load.
-    type Load: Copy;
+    /// The kind's own form of load; two loads are equal when all their counts are.
+    type Load: Copy + Eq;
 
-    /// The number with which the kind's profiles begin.
+    /// The number with which the kind's profiles begin, 1 to 127.
     const MARK: u8;
+
+    ghost MARK: { ℕ };
 
     ghost format: { Format };
 
     ghost counts: { Self.Load → List ℕ };
 
-    /// The mark, 1 to 127. Code that is generic in the kind calls this, since no clause knows a bound's constant.
-    fn kind_mark() -> u8
-        ensures { result ≡ format.mark };
-
     /// The load with every count 0.
     fn empty() -> Self::Load
         ensures { counts result ≡ zeros format };
-
-    /// Whether all counts are equal.
-    fn same(a: Self::Load, b: Self::Load) -> bool
-        ensures { result ≡ alike (counts a) (counts b) };
 
     /// The sums, or none where some sum passes its ceiling.
     fn add(a: Self::Load, b: Self::Load) -> Option<Self::Load>
@@ -68,9 +75,9 @@ pub trait Kind {
     fn image_len() -> u64
         ensures { result ≡ told format.size };
 
-    /// Writes the image at the front of the buffer and keeps the rest; false, and nothing written, where it is shorter.
-    fn put(load: Self::Load, buffer: &mut [u8]) -> bool
-        ensures fits { result ≡ nat_le format.size (length buffer.old) }
+    /// Writes the image at the front of the buffer and keeps the rest; nothing is written where it is shorter.
+    fn put(load: Self::Load, buffer: &mut [u8]) -> Result<(), Short>
+        ensures fits { is_ok result ≡ nat_le format.size (length buffer.old) }
         ensures after { buffer.new ≡ put_front (format.image (counts load)) buffer.old };
 
     /// The load whose image stands at the front of the bytes.
@@ -80,4 +87,8 @@ pub trait Kind {
     ghost lawful: { Lawful format };
 
     ghost counted: { (x : Self.Load) → Counted format (counts x) };
+
+    ghost marked: { MARK ≡ format.mark };
+
+    ghost same: { (a b : Self.Load) → Self.Load.eq a b ≡ alike (counts a) (counts b) };
 }
