@@ -39,7 +39,7 @@ fn push_rows<K: Kind>(out: &mut Vec<u8>, rows: &[Row<K::Load>]) -> Result<(), Al
     let image = room.as_mut_slice();
     for row in rows {
         // There is room for every image: for one that is longer than any buffer there was no memory.
-        K::put(row.load, image);
+        K::put(row.load, image).unwrap();
         push_row(out, row.offset, row.length, image)?;
     }
     Ok(())
