@@ -1,12 +1,19 @@
 -- The number of different items does not depend on their order.
-use Rattle.std.proofs.Common.{◌≡◌, ℕ, ◌+◌, ◌≤◌, Bool, true, false, cond, not, ◌||◌, List, [], ◌∷◌, map, filter, sym, refl, ap, ◌∙◌, inl, inr, arith}
-use Rattle.std.specs.List.{AllByRecursion}
-use Rattle.std.specs.List.Sorted.{IsPermutation}
+use Rattle.std.proofs.Common.{◌≡◌, ℕ, ◌+◌, ◌≤◌, Bool, true, false, cond, not, ◌||◌, List, [], ◌∷◌, map, filter, length, get_or, Contains, Less, sym, refl, ap, ap₂, ◌∙◌, subst, inl, inr, one-add, arith}
+use Rattle.std.specs.Cmp.Lexicographic.{slice_cmp, on_texts, on_texts_equal, texts_ties}
+use Rattle.std.specs.List.{AllByRecursion, dedup}
+use Rattle.std.specs.List.Retain.{IsFiltered, DiffersFromLast}
+use Rattle.std.specs.List.Sorted.{IsPermutation, IsSorted, IsStrictlySortedBy}
+use Rattle.std.specs.Ordering.{is_eq, nat_cmp, on}
 use Rattle.std.specs.Str.{bytes_eq}
-use Rattle.std.proofs.ByRecursion.{All-map, All-weaker, all_shuffled}
-use Rattle.std.proofs.lemmas.Slice.Eq.{bytes_eq-Decides}
-use Rattle.std.proofs.lemmas.List.Sorted.{IsPermutation-sym}
+use Rattle.std.proofs.ByRecursion.{All-map, All-weaker}
 use Rattle.std.proofs.lemmas.Bool.{false≢true, cases_Bool, or_left, or_right, or_parts}
+use Rattle.std.proofs.lemmas.List.Elements.{All-from_recursion, recursion_from_All, Contains-get_or}
+use Rattle.std.proofs.lemmas.List.Filters.{dedup_is}
+use Rattle.std.proofs.lemmas.List.Kept.{Any-dedup, Contains-from_dedup, IsStrictlySortedBy-dedup}
+use Rattle.std.proofs.lemmas.List.Sorted.{Contains-permutation, IsPermutation-sym}
+use Rattle.std.proofs.lemmas.Map.Text.{is_eq-slice_cmp}
+use Rattle.std.proofs.lemmas.Slice.Eq.{bytes_eq-Decides}
 use Rattle.text.specs.Distinct.{among, distinct_of}
 
 same_is : (x y : List ℕ) → bytes_eq x y ≡ true → x ≡ y
@@ -87,13 +94,43 @@ module _ {X : Type 0} (f : X → List ℕ) where
     All-weaker (λ z. among (f z) (map f xs) ≡ true) (λ z. (bytes_eq (f z) (f x) || among (f z) (map f xs)) ≡ true) (λ z h. or_right (bytes_eq (f z) (f x)) (among (f z) (map f xs)) h) xs (among_all xs),
   )
 
-  shuffled_le : (xs ys : List X) → IsPermutation xs ys → distinct_of (map f ys) ≤ distinct_of (map f xs)
-  shuffled_le xs ys s =
-      distinct_le (map f ys) (map f xs)
-      (All-map (λ y. among y (map f xs) ≡ true) f ys (all_shuffled (λ y. among (f y) (map f xs) ≡ true) xs ys s (among_all xs)))
+  among_at : (xs : List X) (x : X) → Contains xs x → among (f x) (map f xs) ≡ true
+  among_at xs x h =
+      let P : X → Type 0 = λ y. among (f y) (map f xs) ≡ true in
+      subst P h.2 (All-from_recursion P xs (among_all xs) h.0 x h.1)
 
-  pub distinct_shuffled : (xs ys : List X) → IsPermutation xs ys → distinct_of (map f ys) ≡ distinct_of (map f xs)
-  distinct_shuffled xs ys s =
-      let below = shuffled_le xs ys s in
-      let above = shuffled_le ys xs (IsPermutation-sym xs ys s) in
+  within_le : (xs ys : List X) → ((x : X) → Contains xs x → among (f x) (map f ys) ≡ true) → distinct_of (map f xs) ≤ distinct_of (map f ys)
+  within_le xs ys kept =
+      let P : X → Type 0 = λ x. among (f x) (map f ys) ≡ true in
+      distinct_le (map f xs) (map f ys)
+      (All-map (λ x. among x (map f ys) ≡ true) f xs (recursion_from_All P xs (λ i d h. kept (get_or xs i d) (Contains-get_or xs i d h))))
+
+  -- in a list that climbs, no item comes again
+  above_all : (x : X) (xs : List X) → AllByRecursion (λ y. slice_cmp nat_cmp (f x) (f y) ≡ Less) xs → among (f x) (map f xs) ≡ false
+  above_all x [] h = refl
+  above_all x (y ∷ ys) h =
+      let other : bytes_eq (f x) (f y) ≡ false = sym (is_eq-slice_cmp (f x) (f y)) ∙ ap is_eq h.0 in
+      ap₂ ◌||◌ other (above_all x ys h.1)
+
+  climbs_all : (xs : List X) → IsStrictlySortedBy (on f (slice_cmp nat_cmp)) xs → distinct_of (map f xs) ≡ length xs
+  unfolding IsStrictlySortedBy
+  climbs_all [] h = refl
+  climbs_all (x ∷ xs) h = ap₂ (λ b n. cond b 0 1 + n) (above_all x xs h.0) (climbs_all xs h.1) ∙ one-add (length xs)
+
+  -- each item has its like among those that stay
+  like_kept : (sorted : List X) (x : X) → Contains sorted x → among (f x) (map f (dedup (on f bytes_eq) sorted)) ≡ true
+  like_kept sorted x h =
+      let kept = dedup (on f bytes_eq) sorted in
+      let like = Any-dedup (on_texts_equal f) sorted x h in
+      ap (λ z. among z (map f kept)) (same_is (f x) (f like.1) like.4) ∙ among_at kept like.1 (like.0, like.2, like.3)
+
+  -- sorted, and without equal neighbours, a list has as many items as differ
+  pub count_kept : (xs sorted kept : List X) → IsPermutation xs sorted → IsSorted (on f (slice_cmp nat_cmp)) sorted → IsFiltered (DiffersFromLast (on f bytes_eq)) [] sorted kept
+      → length kept ≡ distinct_of (map f xs)
+  count_kept xs sorted kept moved up filtered =
+      let stays = dedup (on f bytes_eq) sorted in
+      let all : distinct_of (map f stays) ≡ length stays = climbs_all stays (IsStrictlySortedBy-dedup (on_texts f) (λ x y. texts_ties (f x) (f y)) sorted up) in
+      let below = within_le stays xs (λ x h. among_at xs x (Contains-permutation sorted xs x (IsPermutation-sym xs sorted moved) (Contains-from_dedup (on f bytes_eq) sorted x h))) in
+      let above = within_le xs stays (λ x h. like_kept sorted x (Contains-permutation xs sorted x moved h)) in
+      let is = ap length (dedup_is (on f bytes_eq) sorted kept filtered) in
       omega arith

@@ -94,3 +94,21 @@ lines_few [] = omega arith
 lines_few (b ∷ bs) =
     let few = lines_few bs in
     cond_both (eqb b 10) ([] ∷ lines_of bs) (lead b (lines_of bs)) (λ ls. length ls ≤ suc (length bs)) (λ _. omega arith) (λ _. lead_few b (lines_of bs) (length bs) few)
+
+-- where the first line ends is no later than where the next begins, and neither lies past the end
+pub before_within : (b : ℕ) (bs : List ℕ) → before b bs ≤ length bs
+before_within b [] = omega arith
+before_within b (c ∷ cs) =
+    let below = before_within b cs in
+    cond_both (eqb c b) 0 (1 + before b cs) (λ k. k ≤ suc (length cs)) (λ _. omega arith) (λ _. omega arith)
+
+pub next_within : (bs : List ℕ) → (line_end bs ≤ next_line bs) × (next_line bs ≤ length bs)
+next_within bs =
+    let below = before_within 10 bs in
+    elim (cases_Bool (ltb (line_end bs) (length bs))) [
+      | inl t ↦
+          let next : next_line bs ≡ line_end bs + 1 = cond-true _ _ _ t in
+          let early = ltb-true (line_end bs) (length bs) t in
+          (omega arith, omega arith)
+      | inr t ↦ let next : next_line bs ≡ length bs = cond-false _ _ _ t in (omega arith, omega arith)
+    ]

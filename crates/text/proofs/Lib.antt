@@ -1,4 +1,3 @@
-pub mod Climbs
 pub mod Counts
 pub mod Cuts
 pub mod Pairs

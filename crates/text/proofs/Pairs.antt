@@ -1,51 +1,56 @@
--- One pair of digits after another.
-use Rattle.std.proofs.Common.{◌≡◌, ℕ, ◌-◌, ◌≤◌, true, List, [], ◌∷◌, ◌++◌, length, get_or, take, drop, is_some, Some, None, Option, unwrap_or, sym, refl, ap, ◌∙◌, arith}
-use Rattle.std.proofs.lemmas.List.{take_rest, append_assoc}
-use Rattle.std.proofs.lemmas.Bool.{false≢true}
+-- Digits read pair by pair.
+use Rattle.std.proofs.Common.{◌≡◌, ℕ, zero, suc, ◌*◌, ◌/◌, ◌%◌, ◌<◌, eqb, get_or, Bool, true, false, cond, ◌&&◌, List, [], ◌∷◌, length, map, slice_index, is_some, Some, None, Option, unwrap_or, refl, sym, ap, ◌∙◌, arith}
+use Rattle.std.specs.List.{list_all}
+use Rattle.std.specs.Simd.{first_chunks}
+use Rattle.std.proofs.lemmas.Bool.{eqb-true, eqb-false}
+use Rattle.std.proofs.lemmas.List.Sums.{AllPass-from_list_all}
 use Rattle.text.specs.Hex.{pair_value, before_all, hex_bytes}
 
-two_more : (ds : List ℕ) → 2 ≤ length ds → ds ≡ get_or ds 0 0 ∷ (get_or ds 1 0 ∷ drop 2 ds)
-two_more [] h = absurd (omega arith)
-two_more (d ∷ []) h = absurd (omega arith)
-two_more (high ∷ (low ∷ ds)) h = refl
+-- the byte that a pair writes, if it writes one
+abbrev pub of_pair : List ℕ → Option ℕ
+of_pair p = pair_value (slice_index p 0) (slice_index p 1)
 
--- what is left after the first two digits, as a pattern has it
-abbrev pub tail : List ℕ → List ℕ
-tail ds = take (length ds - 2) (drop 2 ds)
+abbrev pub is_written : List ℕ → Bool
+is_written p = is_some (of_pair p)
 
-bytes_step : (ds : List ℕ) → 2 ≤ length ds → hex_bytes ds ≡ before_all (pair_value (get_or ds 0 0) (get_or ds 1 0)) (hex_bytes (tail ds))
-bytes_step ds h = ap hex_bytes (two_more ds h) ∙ ap (λ l. before_all (pair_value (get_or ds 0 0) (get_or ds 1 0)) (hex_bytes l)) (sym (take_rest ds 2))
+-- the bytes that pairs write, where each writes one
+abbrev pub bytes_of : List (List ℕ) → List ℕ
+bytes_of ps = map (λ p. unwrap_or (of_pair p) 0) ps
 
-some_before : (b : Option ℕ) (bs : Option (List ℕ)) → is_some b ≡ true → is_some bs ≡ is_some (before_all b bs)
-some_before None bs h = absurd (false≢true h)
-some_before (Some b) None h = refl
-some_before (Some b) (Some bs) h = refl
+-- one pair more in front
+one_more : (b : Option ℕ) (t : Bool) (bs : List ℕ) → before_all b (cond t (Some bs) None) ≡ cond (is_some b && t) (Some (unwrap_or b 0 ∷ bs)) None
+one_more None t bs = refl
+one_more (Some b) true bs = refl
+one_more (Some b) false bs = refl
 
-some_tail : (b : Option ℕ) (bs : Option (List ℕ)) → is_some (before_all b bs) ≡ true → is_some bs ≡ true
-some_tail None bs h = absurd (false≢true h)
-some_tail (Some b) None h = absurd (false≢true h)
-some_tail (Some b) (Some bs) h = refl
+pairs_read : (k : ℕ) (ds : List ℕ) → length ds ≡ k * 2 → hex_bytes ds ≡ cond (list_all is_written (first_chunks 2 k ds)) (Some (bytes_of (first_chunks 2 k ds))) None
+pairs_read zero [] e = refl
+pairs_read zero (d ∷ ds) e = absurd (omega arith)
+pairs_read (suc k) [] e = absurd (omega arith)
+pairs_read (suc k) (d ∷ []) e = absurd (omega arith)
+pairs_read (suc k) (high ∷ (low ∷ ds)) e =
+    let ps = first_chunks 2 k ds in
+    ap (before_all (pair_value high low)) (pairs_read k ds (omega arith)) ∙ one_more (pair_value high low) (list_all is_written ps) (bytes_of ps)
 
-value_before : (b : ℕ) (bs : Option (List ℕ)) → is_some bs ≡ true → unwrap_or (before_all (Some b) bs) [] ≡ b ∷ unwrap_or bs []
-value_before b None h = absurd (false≢true h)
-value_before b (Some bs) h = refl
+none_more : (b : Option ℕ) (bs : Option (List ℕ)) → bs ≡ None → before_all b bs ≡ None
+none_more None bs e = refl
+none_more (Some b) bs e = ap (before_all (Some b)) e
 
--- a pair of digits leaves it to the rest whether all is well formed
-pub form_more : (ds : List ℕ) (b : Option ℕ) → 2 ≤ length ds → b ≡ pair_value (get_or ds 0 0) (get_or ds 1 0) → is_some b ≡ true → is_some (hex_bytes (tail ds)) ≡ is_some (hex_bytes ds)
-form_more ds b h e s =
-    some_before b (hex_bytes (tail ds)) s
-    ∙ ap (λ o. is_some (before_all o (hex_bytes (tail ds)))) e
-    ∙ ap is_some (sym (bytes_step ds h))
+odd_refused : (ds : List ℕ) → length ds % 2 ≡ 1 → hex_bytes ds ≡ None
+odd_refused [] e = absurd (omega arith)
+odd_refused (d ∷ []) e = refl
+odd_refused (high ∷ (low ∷ ds)) e = none_more (pair_value high low) (hex_bytes ds) (odd_refused ds (omega arith))
 
-pub rest_there : (ds : List ℕ) → 2 ≤ length ds → is_some (hex_bytes ds) ≡ true → is_some (hex_bytes (tail ds)) ≡ true
-rest_there ds h s = some_tail (pair_value (get_or ds 0 0) (get_or ds 1 0)) (hex_bytes (tail ds)) (sym (ap is_some (bytes_step ds h)) ∙ s)
+-- ---- what a slice is cut into: pairs, and what is left over
 
--- one byte more is written, and the rest stays to be read
-pub bytes_more : (ds out after : List ℕ) (b : ℕ) → 2 ≤ length ds → is_some (hex_bytes ds) ≡ true → Some b ≡ pair_value (get_or ds 0 0) (get_or ds 1 0) → after ≡ out ++ (b ∷ [])
-    → after ++ unwrap_or (hex_bytes (tail ds)) [] ≡ out ++ unwrap_or (hex_bytes ds) []
-bytes_more ds out after b h s e a =
-    ap (λ l. l ++ unwrap_or (hex_bytes (tail ds)) []) a
-    ∙ append_assoc out (b ∷ []) (unwrap_or (hex_bytes (tail ds)) [])
-    ∙ ap (λ l. out ++ l) (sym (value_before b (hex_bytes (tail ds)) (rest_there ds h s)))
-    ∙ ap (λ o. out ++ unwrap_or (before_all o (hex_bytes (tail ds))) []) e
-    ∙ ap (λ o. out ++ unwrap_or o []) (sym (bytes_step ds h))
+pub read_even : (ds odd : List ℕ) (ps : List (List ℕ)) → ps ≡ first_chunks 2 (length ds / 2) ds → length odd ≡ length ds % 2 → eqb (length odd) 0 ≡ true → hex_bytes ds ≡ cond (list_all is_written ps) (Some (bytes_of ps)) None
+read_even ds odd ps e l none =
+    let even = eqb-true (length odd) 0 none in
+    pairs_read (length ds / 2) ds (omega arith) ∙ ap (λ p. cond (list_all is_written p) (Some (bytes_of p)) None) (sym e)
+
+pub refused_odd : (ds odd : List ℕ) → length odd ≡ length ds % 2 → eqb (length odd) 0 ≡ false → None ≡ hex_bytes ds
+refused_odd ds odd l some = let n = eqb-false (length odd) 0 some in sym (odd_refused ds (omega arith))
+
+-- each pair writes a byte, where all do
+pub pair_written : (ps : List (List ℕ)) (i : ℕ) (d : List ℕ) (b : Option ℕ) → list_all is_written ps ≡ true → i < length ps → b ≡ of_pair (get_or ps i d) → is_some b ≡ true
+pair_written ps i d b h lt e = ap is_some e ∙ AllPass-from_list_all is_written ps h i d lt

@@ -1,6 +1,8 @@
-// Bytes written as small hexadecimal digits, two for each byte.
-ghost use Rattle.std.specs.Prelude.{◌≡◌, ◌+◌, ◌*◌, ◌<◌, ◌≤◌, true, [], ◌∷◌, ◌++◌, length, is_some, is_ok, if◌then◌else◌, vec_items, vec_len, vec_capacity, MatchResult, OnErr};
-ghost use Rattle.std.specs.Option.{option_map, unwrap_or};
+// Bytes written as small hexadecimal digits, two for each byte. A capital letter is no digit here, though the library
+// and the kit's `hex` read it as one.
+ghost use Rattle.std.specs.Prelude.{◌≡◌, ◌+◌, ◌*◌, ◌<◌, ◌≤◌, true, [], ◌∷◌, ◌++◌, length, is_some, is_ok, if◌then◌else◌, slice_index, vec_items, vec_len, vec_capacity, MatchResult, OnErr};
+ghost use Rattle.std.specs.List.{list_all};
+ghost use Rattle.std.specs.Option.{option_map};
 ghost use Rattle.text.specs.Hex.{hex_value, pair_value, hex_bytes, hex_digit, hex_text, HexLaw};
 
 use std::alloc::{AllocError, Global};
@@ -16,40 +18,19 @@ pub fn digit_value(byte: u8) -> Option<u8>
     }
 }
 
-// The byte that two digits write.
-fn pair_value(high: u8, low: u8) -> Option<u8>
-    ensures { result ≡ pair_value high low }
+// The byte that a pair of digits writes.
+fn pair_value(pair: [u8; 2]) -> Option<u8>
+    ensures { result ≡ pair_value (slice_index pair 0) (slice_index pair 1) }
 {
-    let high = digit_value(high)?;
-    let low = digit_value(low)?;
-    Some(high * 16 + low)
+    let [high, low] = pair;
+    Some(digit_value(high)? * 16 + digit_value(low)?)
 }
 
-// Whether the digits write bytes.
-fn well_formed(digits: &[u8]) -> bool
-    ensures { result ≡ is_some (hex_bytes digits.now) }
+// Whether each pair writes a byte.
+fn well_formed(pairs: &[[u8; 2]]) -> bool
+    ensures { result ≡ list_all (λ p. is_some (pair_value (slice_index p 0) (slice_index p 1))) pairs.now }
 {
-    let mut rest = digits;
-    while let [high, low, tail @ ..] = rest {
-        if pair_value(*high, *low).is_none() {
-            return false;
-        }
-        rest = tail;
-    }
-    rest.is_empty()
-}
-
-// Adds the bytes that well-formed digits write.
-fn push_bytes(out: &mut Vec<u8>, digits: &[u8]) -> Result<(), AllocError>
-    requires { is_some (hex_bytes digits.now) ≡ true }
-    ensures { MatchResult result (λ _. out.new.items ≡ out.old.items ++ unwrap_or (hex_bytes digits.now) []) (λ _. 2 ≤ length digits.now) }
-{
-    let mut rest = digits;
-    while let [high, low, tail @ ..] = rest {
-        out.push(pair_value(*high, *low).unwrap())?;
-        rest = tail;
-    }
-    Ok(())
+    pairs.iter().all(|pair| pair_value(*pair).is_some())
 }
 
 /// The bytes that the digits write, `None` where they write none. Only digits that write some byte can
@@ -57,11 +38,14 @@ fn push_bytes(out: &mut Vec<u8>, digits: &[u8]) -> Result<(), AllocError>
 pub fn from_hex(heap: Global, digits: &[u8]) -> Result<Option<Vec<u8>>, AllocError>
     ensures { MatchResult result (λ o. option_map vec_items o ≡ hex_bytes digits.now) (λ _. (is_some (hex_bytes digits.now) ≡ true) × (2 ≤ length digits.now)) }
 {
-    if !well_formed(digits) {
+    let (pairs, odd) = digits.as_chunks::<2>();
+    if !odd.is_empty() || !well_formed(pairs) {
         return Ok(None);
     }
     let mut bytes = Vec::new(heap);
-    push_bytes(&mut bytes, digits)?;
+    for pair in pairs {
+        bytes.push(pair_value(*pair).unwrap())?;
+    }
     Ok(Some(bytes))
 }
 
@@ -85,13 +69,13 @@ fn digits_of(byte: u8) -> [u8; 2]
 }
 
 /// Adds two digits for each byte. Where there is no memory for all of them, nothing is added.
+#[tactic(auto, using(crate::proofs::Writes::hex_law, crate::proofs::Writes::text_more, crate::proofs::Writes::text_all))]
 pub fn push_hex(out: &mut Vec<u8>, bytes: &[u8]) -> Result<(), AllocError>
     ensures items { out.new.items ≡ (if is_ok result then out.old.items ++ hex_text bytes.now else out.old.items) }
     ensures refuses { OnErr result (vec_capacity out.old < vec_len out.old + 2 * length bytes.now) }
     ensures law { HexLaw }
 {
-    let count = bytes.len().checked_mul(2).ok_or(AllocError)?;
-    out.reserve(count)?;
+    out.reserve(2 * bytes.len())?;
     for byte in bytes {
         let [high, low] = digits_of(*byte);
         out.push_reserved(high);

@@ -16,9 +16,11 @@ fn split_at_byte(bytes: &[u8], byte: u8) -> (&[u8], Option<&[u8]>)
 }
 
 /// The first line, which goes up to a line feed, or to the end; and what follows the line feed.
+#[tactic(auto, using(crate::proofs::Cuts::next_within))]
 pub fn next_line(bytes: &[u8]) -> (&[u8], &[u8])
     ensures line { result.0.now ≡ take (line_end bytes.now) bytes.now }
     ensures rest { result.1.now ≡ drop (next_line bytes.now) bytes.now }
+    ensures bound { (line_end bytes.now ≤ next_line bytes.now) × (next_line bytes.now ≤ length bytes.now) }
     ensures advances { 0 < length bytes.now → length result.1.now < length bytes.now }
 {
     let (line, rest) = split_at_byte(bytes, b'\n');
@@ -26,9 +28,11 @@ pub fn next_line(bytes: &[u8]) -> (&[u8], &[u8])
 }
 
 /// The first word, which goes up to a space, or to the end; and what follows the space, if there is one.
+#[tactic(auto, using(crate::proofs::Cuts::before_within))]
 pub fn word(bytes: &[u8]) -> (&[u8], Option<&[u8]>)
     ensures word { result.0.now ≡ take (word_end bytes.now) bytes.now }
     ensures rest { option_map (λ s. s.now) result.1 ≡ after_word bytes.now }
+    ensures bound { word_end bytes.now ≤ length bytes.now }
 {
     split_at_byte(bytes, b' ')
 }

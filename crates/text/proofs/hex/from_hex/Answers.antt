@@ -1,19 +1,33 @@
-use Rattle.std.proofs.Common.{◌≡◌, ℕ, List, [], ◌++◌, Some, None, Option, true, false, is_some, refl, sym, ap, ◌∙◌}
-use Rattle.std.proofs.lemmas.Bool.{false≢true}
-use Rattle.std.specs.Option.{unwrap_or}
-use Rattle.text.specs.Hex.{hex_bytes}
+use Rattle.std.proofs.Common.{sym, ap, ◌∙◌, Some, is_some, arith}
+use Rattle.std.proofs.lemmas.Bool.{cond-true, cond-false}
+use Rattle.std.proofs.lemmas.List.{take_all}
+use Rattle.std.proofs.lemmas.Result.{err_from_is_err_and}
+use Rattle.text.proofs.Pairs.{bytes_of, read_even, refused_odd, pair_written}
 use Rattle.text.proofs.hex.from_hex.Goals as goal
+use Rattle.text.proofs.hex.from_hex.Goals.{then-not-is_empty-via-then-not-is_empty, then-not-is_empty-via-else-not-is_empty+then-not-well_formed}
 
-none_from : (o : Option (List ℕ)) → is_some o ≡ false → None ≡ o
-none_from None h = refl
-none_from (Some xs) h = absurd (false≢true (sym h))
+pub returns-then-not-is_empty : goal.returns-then-not-is_empty
+returns-then-not-is_empty c =
+    let digits = c.args.digits.now in
+    let cut = c.as_chunks in
+    elim c.then-not-is_empty.branch [
+      | then-not-is_empty-via-then-not-is_empty w ↦ refused_odd digits cut.result.1.now cut.ensures.back_len (sym w.if-not-is_empty.ensures)
+      | then-not-is_empty-via-else-not-is_empty+then-not-well_formed w ↦
+          sym (read_even digits cut.result.1.now cut.result.0.now cut.ensures.front cut.ensures.back_len (sym w.if-not-is_empty.ensures) ∙ cond-false _ _ _ (sym w.if-not-well_formed.ensures))
+    ]
 
-some_from : (o : Option (List ℕ)) (xs : List ℕ) → is_some o ≡ true → xs ≡ unwrap_or o [] → Some xs ≡ o
-some_from None xs h e = absurd (false≢true h)
-some_from (Some ys) xs h e = ap Some e
+pub unwrap-requires : goal.unwrap-requires
+unwrap-requires c = pair_written c.as_chunks.result.0.now c.loop-pair.pair-index _ c.pair_value.result (sym c.if-not-well_formed.ensures) c.loop-pair-test.true c.pair_value.ensures
 
-pub returns-then-not-well_formed : goal.returns-then-not-well_formed
-returns-then-not-well_formed c = none_from (hex_bytes c.args.digits.now) (sym c.well_formed-2.ensures ∙ c.if-not-well_formed.true)
+pub returns-in_err-push : goal.returns-in_err-push
+returns-in_err-push c =
+    let cut = c.as_chunks in
+    let all = read_even c.args.digits.now cut.result.1.now cut.result.0.now cut.ensures.front cut.ensures.back_len (sym c.if-not-is_empty.ensures) ∙ cond-true _ _ _ (sym c.if-not-well_formed.ensures) in
+    let p = err_from_is_err_and c.from_residual.result c.from_residual.ensures.1 in
+    rw p.1 (ap is_some all, omega (arith, cut.ensures.front_len))
 
 pub returns : goal.returns
-returns c = some_from (hex_bytes c.args.digits.now) _ (sym c.well_formed-2.ensures ∙ c.if-not-well_formed.false) (c.in_ok-push_bytes.ensures ∙ ap (λ xs. xs ++ unwrap_or (hex_bytes c.args.digits.now) []) c.new-bytes.ensures.items)
+returns c =
+    let cut = c.as_chunks in
+    let all = read_even c.args.digits.now cut.result.1.now cut.result.0.now cut.ensures.front cut.ensures.back_len (sym c.if-not-is_empty.ensures) ∙ cond-true _ _ _ (sym c.if-not-well_formed.ensures) in
+    ap Some (c.loop-pair.invariant ∙ ap bytes_of (take_all c.loop-pair.pair-index cut.result.0.now c.loop-pair-test.false)) ∙ sym all
