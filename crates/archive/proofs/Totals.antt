@@ -1,5 +1,5 @@
 -- Findings sorted one after another, and their totals.
-use Rattle.std.proofs.Common.{◌≡◌, ℕ, ◌+◌, Bool, true, false, cond, List, [], ◌∷◌, ◌++◌, map, length, Some, Ok, Err, vec_items, count_by, Vec, sym, refl, ap, ◌∙◌, ap₂, arith}
+use Rattle.std.proofs.Common.{◌≡◌, ℕ, ◌+◌, Bool, true, false, cond, List, [], ◌∷◌, ◌++◌, map, length, Some, Ok, Err, vec_items, count_by, Bor, Vec, sym, refl, ap, ◌∙◌, ap₂, arith}
 use Rattle.std.specs.List.{flat_map}
 use Rattle.std.specs.declared.alloc.Global.{Global}
 use Rattle.std.proofs.lemmas.List.{append-nil, flat_map_more, length-map, map_push}
@@ -7,8 +7,9 @@ use Rattle.std.proofs.lemmas.List.Sums.{sum_by-cons}
 use Rattle.text.specs.Distinct.{distinct_of}
 use Rattle.archive.specs.declared.rejection.Rejection.{Rejection}
 use Rattle.archive.specs.declared.rejection.Rejection.TheVariants.{BadLine, Refused}
-use Rattle.archive.specs.Findings.{Finding, bad, refused, accepted, is_bad, is_refused, accepted_bytes, verdict}
+use Rattle.archive.specs.Findings.{Finding, bad, refused, accepted, finding, is_bad, is_refused, accepted_bytes, verdict}
 use Rattle.archive.specs.Reports.{Totals, totals_of}
+use Rattle.archive.specs.Texts.{answer_text}
 use Rattle.archive.specs.Views.{verdict_of, rejections_of, Sorted}
 
 -- what an accepted line adds, and what another one adds
@@ -25,28 +26,45 @@ rejects_one (refused y) (Refused x) e = (cc, cc)
 rejects_one (accepted k cs p) BadLine e = (cc, cc)
 rejects_one (accepted k cs p) (Refused x) e = (cc, cc)
 
-module _ {X : Type 0} (view : X → Finding) (xs : List X) (x : X) where
-  pub one_more : {Y : Type 0} (g : Finding → List Y) (was ys : List Y) → was ≡ flat_map g (map view xs) → g (view x) ≡ ys → was ++ ys ≡ flat_map g (map view (xs ++ x ∷ []))
-  one_more g was ys w e = ap₂ ◌++◌ w (sym e) ∙ (flat_map_more g [] (map view xs) (view x) ∙ ap (flat_map g) (sym (map_push view xs x)))
+-- the findings of lines
+abbrev pub findings : List (Bor (List ℕ)) → List Finding
+findings ls = map (λ l. finding l.now) ls
 
-  none_more : {Y : Type 0} (g : Finding → List Y) (was : List Y) → was ≡ flat_map g (map view xs) → g (view x) ≡ [] → was ≡ flat_map g (map view (xs ++ x ∷ []))
-  none_more g was w e = sym (append-nil was) ∙ one_more g was [] w e
+-- the answers to the lines are out, and their findings are sorted
+pub record Reported (ls : List (Bor (List ℕ))) (text : List ℕ) (vs : List (Vec ℕ Global)) (rs : List Rejection) : Type 0 where
+  pub answers : text ≡ flat_map answer_text (findings ls)
+  pub sorted : Sorted (findings ls) vs rs
 
-  pub sorted_accepted : (vs : List (Vec ℕ Global)) (rs : List Rejection) (v : Vec ℕ Global) → Sorted (map view xs) vs rs → Some (Ok (vec_items v)) ≡ verdict (view x) → Sorted (map view (xs ++ x ∷ [])) (vs ++ v ∷ []) rs
-  sorted_accepted vs rs v s e =
-      let one = accepts_one (view x) (vec_items v) e in
-      record {
-        accepts = map_push vec_items vs v ∙ one_more accepted_bytes (map vec_items vs) (vec_items v ∷ []) s.accepts one.0;
-        rejects = none_more rejections_of rs s.rejects one.1;
-      }
+one_more : {Y : Type 0} (g : Finding → List Y) (ls : List (Bor (List ℕ))) (l : Bor (List ℕ)) (was after ys : List Y) → was ≡ flat_map g (findings ls) → g (finding l.now) ≡ ys
+    → after ≡ was ++ ys → after ≡ flat_map g (findings (ls ++ l ∷ []))
+one_more g ls l was after ys w e a =
+    a ∙ (ap₂ ◌++◌ w (sym e) ∙ (flat_map_more g [] (findings ls) (finding l.now) ∙ ap (flat_map g) (sym (map_push (λ x. finding x.now) ls l))))
 
-  pub sorted_rejected : (vs : List (Vec ℕ Global)) (rs : List Rejection) (r : Rejection) → Sorted (map view xs) vs rs → verdict_of (Err r) ≡ verdict (view x) → Sorted (map view (xs ++ x ∷ [])) vs (rs ++ r ∷ [])
-  sorted_rejected vs rs r s e =
-      let one = rejects_one (view x) r e in
-      record {
-        accepts = none_more accepted_bytes (map vec_items vs) s.accepts one.0;
-        rejects = one_more rejections_of rs (r ∷ []) s.rejects one.1;
-      }
+pub accepted_more : (ls : List (Bor (List ℕ))) (l : Bor (List ℕ)) (text after : List ℕ) (vs ws : List (Vec ℕ Global)) (rs : List Rejection) (v : Vec ℕ Global)
+    → Reported ls text vs rs → after ≡ text ++ answer_text (finding l.now) → Some (Ok (vec_items v)) ≡ verdict (finding l.now) → ws ≡ vs ++ v ∷ []
+    → Reported (ls ++ l ∷ []) after ws rs
+accepted_more ls l text after vs ws rs v was t e p =
+    let one = accepts_one (finding l.now) (vec_items v) e in
+    record {
+      answers = one_more answer_text ls l text after _ was.answers refl t;
+      sorted = record {
+        accepts = one_more accepted_bytes ls l (map vec_items vs) (map vec_items ws) (vec_items v ∷ []) was.sorted.accepts one.0 (ap (map vec_items) p ∙ map_push vec_items vs v);
+        rejects = one_more rejections_of ls l rs rs [] was.sorted.rejects one.1 (sym (append-nil rs));
+      };
+    }
+
+pub rejected_more : (ls : List (Bor (List ℕ))) (l : Bor (List ℕ)) (text after : List ℕ) (vs : List (Vec ℕ Global)) (rs qs : List Rejection) (r : Rejection)
+    → Reported ls text vs rs → after ≡ text ++ answer_text (finding l.now) → verdict_of (Err r) ≡ verdict (finding l.now) → qs ≡ rs ++ r ∷ []
+    → Reported (ls ++ l ∷ []) after vs qs
+rejected_more ls l text after vs rs qs r was t e p =
+    let one = rejects_one (finding l.now) r e in
+    record {
+      answers = one_more answer_text ls l text after _ was.answers refl t;
+      sorted = record {
+        accepts = one_more accepted_bytes ls l (map vec_items vs) (map vec_items vs) [] was.sorted.accepts one.0 (sym (append-nil (map vec_items vs)));
+        rejects = one_more rejections_of ls l rs qs (r ∷ []) was.sorted.rejects one.1 p;
+      };
+    }
 
 -- ---- the totals
 
