@@ -1,4 +1,3 @@
-pub mod Drafts
-pub mod Lines
-pub mod Marks
-pub mod Pushes
+pub mod Rows
+pub mod Totals
+pub mod Writings

@@ -1,9 +1,10 @@
--- The lines of an input, and the profile that a line files.
-use Rattle.std.specs.Prelude.{ℕ, ◌+◌, cond, List, [], ◌∷◌, length, take, drop, Some, None, codes, Option, ◌==◌, nat_lt}
+-- The profile that a line files.
+use Rattle.std.specs.Prelude.{ℕ, cond, List, take, Some, None, codes, Option}
+use Rattle.std.specs.Option.{option_and_then, option_zip}
 use Rattle.std.specs.Str.{bytes_eq}
 use Rattle.loads.specs.Formats.{Format, airtime_format, crews_format, pair_format}
 use Rattle.text.specs.Hex.{hex_bytes}
-use Rattle.text.specs.Lines.{word_end}
+use Rattle.text.specs.Lines.{word_end, after_word}
 use Rattle.archive.specs.declared.kind_name.KindName.{KindName}
 use Rattle.archive.specs.declared.kind_name.KindName.TheVariants.{Airtime, Crews, Both}
 
@@ -22,24 +23,8 @@ kind_of w =
 
 -- the bytes that the digits after the first space write; none where there is no space
 abbrev pub filed_bytes : List ℕ → Option (List ℕ)
-filed_bytes line = cond (nat_lt (word_end line) (length line)) (hex_bytes (drop (word_end line + 1) line)) None
-
--- a kind and bytes, if both are there
-abbrev pub filing : Option KindName → Option (List ℕ) → Option (KindName × List ℕ)
-filing None bs = None
-filing (Some k) None = None
-filing (Some k) (Some bs) = Some (k, bs)
+filed_bytes line = option_and_then hex_bytes (after_word line)
 
 -- the kind and the bytes of the profile that a line files: the kind's word, one space, and the bytes in hexadecimal digits
 abbrev pub line_of : List ℕ → Option (KindName × List ℕ)
-line_of line = filing (kind_of (take (word_end line) line)) (filed_bytes line)
-
--- a byte before the first line
-abbrev pub lead : ℕ → List (List ℕ) → List (List ℕ)
-lead b [] = (b ∷ []) ∷ []
-lead b (l ∷ ls) = (b ∷ l) ∷ ls
-
--- the lines of an input: each ends at a line feed, which the last may lack
-abbrev pub lines_of : List ℕ → List (List ℕ)
-lines_of [] = []
-lines_of (b ∷ bs) = cond (b == 10) ([] ∷ lines_of bs) (lead b (lines_of bs))
+line_of line = option_zip (kind_of (take (word_end line) line)) (filed_bytes line)

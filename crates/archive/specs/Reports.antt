@@ -2,8 +2,8 @@
 use Rattle.std.specs.Prelude.{ℕ, List, ◌++◌, map, length, codes, count_by}
 use Rattle.std.specs.List.{flat_map}
 use Rattle.text.specs.Distinct.{distinct_of}
+use Rattle.text.specs.Lines.{lines_of}
 use Rattle.archive.specs.Findings.{Finding, finding, is_bad, is_refused, accepted_bytes}
-use Rattle.archive.specs.Grammar.{lines_of}
 use Rattle.archive.specs.Texts.{feed, field, answer_text}
 
 -- how many lines there were, and how many of each finding; distinct is the number of different byte strings accepted

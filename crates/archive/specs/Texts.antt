@@ -6,6 +6,8 @@ use Rattle.terms.specs.declared.refusal.Refusal.{Refusal}
 use Rattle.loads.specs.Formats.{Format}
 use Rattle.profile.specs.Rows.{Row, Profile}
 use Rattle.text.specs.Hex.{hex_text}
+use Rattle.archive.specs.declared.rejection.Rejection.{Rejection}
+use Rattle.archive.specs.declared.rejection.Rejection.TheVariants.{BadLine, Refused}
 use Rattle.archive.specs.Findings.{Finding, bad, refused, accepted}
 use Rattle.archive.specs.Grammar.{format_of}
 
@@ -30,6 +32,11 @@ refused_text e = field (codes "refused ") (number_of e) ++ feed
 
 abbrev pub bad_text : List ℕ
 bad_text = codes "bad line" ++ feed
+
+-- what is printed of a rejection, before the line feed
+abbrev pub rejection_text : Rejection → List ℕ
+rejection_text BadLine = codes "bad line"
+rejection_text (Refused e) = field (codes "refused ") (number_of e)
 
 -- what is printed of bytes that were read for one kind
 abbrev pub read_text : Format → Result Profile Refusal → List ℕ

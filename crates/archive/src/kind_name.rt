@@ -1,6 +1,6 @@
 // The kinds of profile that an archive files, by their words.
 ghost use Rattle.std.specs.Prelude.{◌≡◌};
-ghost use Rattle.std.specs.Str.{bytes_eq};
+ghost use Rattle.std.specs.Result.{result_ok};
 ghost use Rattle.archive.specs.Grammar.{kind_of};
 
 /// `Both` is the pair with airtime first.
@@ -11,23 +11,21 @@ pub enum KindName {
     Both,
 }
 
-fn is_word(word: &[u8], name: &[u8]) -> bool
-    ensures { result ≡ bytes_eq word.now name.now }
-{
-    word == name
-}
+/// A word that names no kind.
+#[derive(Clone, Copy, PartialEq, Eq, Debug)]
+pub struct UnknownKind;
 
-/// The kind that a word names.
-pub fn kind_of(word: &[u8]) -> Option<KindName>
-    ensures { result ≡ kind_of word.now }
-{
-    if is_word(word, b"airtime") {
-        Some(KindName::Airtime)
-    } else if is_word(word, b"crews") {
-        Some(KindName::Crews)
-    } else if is_word(word, b"both") {
-        Some(KindName::Both)
-    } else {
-        None
+impl TryFrom<&[u8]> for KindName {
+    type Error = UnknownKind;
+
+    ghost try_from_gives = { λ word r. result_ok r ≡ kind_of word.now };
+
+    fn try_from(word: &[u8]) -> Result<KindName, UnknownKind> {
+        match word {
+            b"airtime" => Ok(KindName::Airtime),
+            b"crews" => Ok(KindName::Crews),
+            b"both" => Ok(KindName::Both),
+            _ => Err(UnknownKind),
+        }
     }
 }

@@ -5,5 +5,6 @@ pub mod answer;
 pub mod kind_name;
 pub mod line;
 mod print;
+pub mod rejection;
 pub mod report;
 mod total;

@@ -4,7 +4,7 @@ ghost use Rattle.std.specs.Option.{option_map};
 ghost use Rattle.archive.specs.Grammar.{line_of};
 ghost use Rattle.archive.specs.Views.{filing_of};
 
-use crate::kind_name::{KindName, kind_of};
+use crate::kind_name::KindName;
 use std::alloc::{AllocError, Global};
 use text::hex::from_hex;
 use text::lines::word;
@@ -20,15 +20,10 @@ pub struct Filing {
 pub fn read_line(heap: Global, line: &[u8]) -> Result<Option<Filing>, AllocError>
     ensures { MatchResult result (λ o. option_map filing_of o ≡ line_of line.now) (λ _. is_some (line_of line.now) ≡ true) }
 {
-    let end = word(line);
-    let Some(kind) = kind_of(&line[0..end]) else {
+    let (name, rest) = word(line);
+    let (Ok(kind), Some(digits)) = (KindName::try_from(name), rest) else {
         return Ok(None);
     };
-    if end == line.len() {
-        return Ok(None);
-    }
-    match from_hex(heap, &line[end + 1..])? {
-        Some(bytes) => Ok(Some(Filing { kind, bytes })),
-        None => Ok(None),
-    }
+    let bytes = from_hex(heap, digits)?;
+    Ok(bytes.map(|bytes| Filing { kind, bytes }))
 }

@@ -1,28 +1,32 @@
 // The totals, which stand last.
-ghost use Rattle.std.specs.Prelude.{◌≡◌, ◌++◌, OnOk};
-ghost use Rattle.archive.specs.Reports.{total_text};
-ghost use Rattle.archive.specs.Views.{totals_told};
+ghost use Rattle.std.specs.Prelude.{◌≡◌, List, ◌++◌, OnOk};
+ghost use Rattle.archive.specs.Findings.{Finding};
+ghost use Rattle.archive.specs.Reports.{totals_of, total_text};
+ghost use Rattle.archive.specs.Views.{Sorted};
 
-use crate::print::push_field;
+use crate::print::push_line;
+use crate::rejection::Rejection;
 use std::alloc::AllocError;
+use text::distinct::distinct;
 
-/// How many lines there were, and how many of each verdict; `distinct` is the number of different profiles accepted.
-#[derive(Clone, Copy)]
-pub(crate) struct Totals {
-    pub(crate) total: u64,
-    pub(crate) ok: u64,
-    pub(crate) refused: u64,
-    pub(crate) bad: u64,
-    pub(crate) distinct: u64,
-}
-
-pub(crate) fn push_totals(out: &mut Vec<u8>, totals: Totals) -> Result<(), AllocError>
-    ensures { OnOk result (out.new.items ≡ out.old.items ++ total_text (totals_told totals)) }
+/// Adds how many lines there were, how many of each verdict, and how many different profiles were accepted.
+pub(crate) fn push_totals(
+    out: &mut Vec<u8>,
+    accepted: Vec<Vec<u8>>,
+    rejections: &[Rejection],
+) -> Result<(), AllocError>
+    ensures { OnOk result ((fs : List Finding) → Sorted fs accepted.items rejections.now → out.new.items ≡ out.old.items ++ total_text (totals_of fs)) }
 {
-    push_field(out, b"total ", totals.total)?;
-    push_field(out, b" ok ", totals.ok)?;
-    push_field(out, b" refused ", totals.refused)?;
-    push_field(out, b" bad ", totals.bad)?;
-    push_field(out, b" distinct ", totals.distinct)?;
-    out.extend_from_slice(b"\n")
+    let ok = accepted.len();
+    let bad = rejections
+        .iter()
+        .filter(|r| matches!(**r, Rejection::BadLine))
+        .count();
+    let refused = rejections.len() - bad;
+    let total = ok + refused + bad;
+    let distinct = distinct(accepted);
+    push_line(
+        out,
+        format_args!("total {total} ok {ok} refused {refused} bad {bad} distinct {distinct}"),
+    )
 }

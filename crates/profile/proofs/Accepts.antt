@@ -1,7 +1,7 @@
 -- What the reader accepts is the writing of what it gives.
 use Rattle.std.proofs.Common.{◌≡◌, ℕ, zero, suc, ◌+◌, ◌^◌, ◌<◌, ◌≤◌, Bool, true, false, cond, eqb, leb, List, [], ◌∷◌, ◌++◌, length, get_or, take, drop, Some, None, Ok, Err, Option, Result, sym, refl, ap, ◌∙◌, subst, ap₂, arith, length-drop, length-take}
 use Rattle.std.specs.List.{flat_map, AllByRecursion}
-use Rattle.std.proofs.lemmas.List.{take-append-drop}
+use Rattle.std.proofs.lemmas.List.{take-append-drop, take-take, drop-take}
 use Rattle.std.proofs.ByRecursion.{All-take, All-drop}
 use Rattle.std.proofs.lemmas.Bool.{leb-true, eqb-true, cond-true}
 use Rattle.terms.specs.declared.refusal.Refusal.{Refusal}
@@ -10,7 +10,6 @@ use Rattle.loads.specs.declared.kind.LoadFault.{LoadFault}
 use Rattle.loads.specs.declared.kind.LoadFault.TheVariants.{Short}
 use Rattle.loads.specs.Digits.{to_bytes, from_bytes}
 use Rattle.loads.specs.Formats.{Format, Bytes, Counted, Lawful, read_front, or_no_image}
-use Rattle.loads.proofs.Fronts.{take_both}
 use Rattle.loads.specs.Places.{to_from_bytes, from_bytes_below}
 use Rattle.profile.specs.Rows.{Row, row_fault, rows_fault, or_fault, lawful_horizon, unless}
 use Rattle.profile.specs.Wire.{row_bytes, row_size, Header, read_header, with_load, row_at, checked, next_row, then_rows, read_rows, as_profile, then_body}
@@ -25,6 +24,10 @@ cond_ok false r e x h = absurd (ok_not_err h)
 pub unless_ok : {X : Type 0} (o : Option Refusal) (x y : X) → unless o x ≡ Ok y → (o ≡ None) × (x ≡ y)
 unless_ok None x y h = (refl, (cc))
 unless_ok (Some e) x y h = absurd (ok_not_err h)
+
+take_both : (n m : ℕ) (bs : List ℕ) → take n bs ++ take m (drop n bs) ≡ take (n + m) bs
+take_both n m bs =
+    ap₂ ◌++◌ (sym (take-take n (n + m) bs (omega arith))) (sym (drop-take n m bs)) ∙ take-append-drop n (take (n + m) bs)
 
 -- four bytes of a byte string are those of their number
 word_bytes : (n : ℕ) (bs : List ℕ) → n + 4 ≤ length bs → Bytes bs → (to_bytes 4 (from_bytes (take 4 (drop n bs))) ≡ take 4 (drop n bs)) × (from_bytes (take 4 (drop n bs)) < 2 ^ 32)

@@ -5,7 +5,7 @@ use Rattle.terms.specs.declared.refusal.Refusal.{Refusal}
 use Rattle.terms.specs.declared.refusal.Refusal.TheVariants.{ProfileHorizon, RowPlace, RowLoad}
 use Rattle.loads.specs.Counts.{alike, empty}
 use Rattle.loads.specs.Formats.{Format, Lawful, zeros}
-use Rattle.loads.proofs.Means.{alike_is}
+use Rattle.loads.specs.Same.{alike_is}
 use Rattle.profile.specs.Rows.{Row, Profile, end_of, load_at, end_before, misplaced, goes_on, misloaded, row_fault, or_fault, rows_fault, lawful_horizon, profile_fault}
 use Rattle.profile.specs.Wire.{profile_bytes}
 use Rattle.profile.specs.Laws.{OneWriting}

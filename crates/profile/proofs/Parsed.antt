@@ -1,43 +1,25 @@
--- Headers and rows as the code reads them: number by number.
-use Rattle.std.proofs.Common.{◌≡◌, ℕ, ◌+◌, ◌*◌, ◌^◌, ◌<◌, ◌≤◌, Bool, cond, ◌||◌, List, length, get_or, take, drop, Ok, Err, Option, Result, sym, ap, ◌∙◌, ap₂, inl, inr, arith, length-drop}
-use Rattle.std.proofs.lemmas.List.{get_or-drop, drop_all}
-use Rattle.std.proofs.lemmas.Bool.{cases_lt, le-leb, eq-eqb, cond-true}
-use Rattle.terms.specs.declared.refusal.Refusal.TheVariants.{ProfileHorizon}
+-- What the code asks of a row's load.
+use Rattle.std.proofs.Common.{◌≡◌, Bool, true, false, ◌||◌, List, ℕ, length, Ok, Err, Option, Result, sym, ap, ◌∙◌}
+use Rattle.std.specs.Result.{MatchResult}
+use Rattle.terms.specs.declared.refusal.Refusal.{Refusal}
 use Rattle.loads.specs.declared.kind.LoadFault.{LoadFault}
-use Rattle.loads.specs.Counts.{alike}
-use Rattle.loads.specs.Digits.{from_bytes}
-use Rattle.loads.specs.Formats.{Format, told, zeros, read_front}
-use Rattle.loads.proofs.Fronts.{front_4}
+use Rattle.loads.specs.Counts.{alike, empty}
+use Rattle.loads.specs.Formats.{Format, zeros}
 use Rattle.loads.proofs.Means.{alike_zeros}
-use Rattle.loads.specs.Places.{word_4}
-use Rattle.profile.specs.Rows.{Row, goes_on, misloaded, lawful_horizon}
-use Rattle.profile.specs.Wire.{read_header, with_load, row_at}
+use Rattle.profile.specs.Rows.{Row, goes_on, misloaded}
 
--- the number in the four bytes from k on
-pub word_at : (k : ℕ) (bs : List ℕ) → k + 4 ≤ length bs
-    → get_or bs (k + 0) 0 * 16777216 + get_or bs (k + 1) 0 * 65536 + get_or bs (k + 2) 0 * 256 + get_or bs (k + 3) 0 ≡ from_bytes (take 4 (drop k bs))
-word_at k bs h = word_4 _ _ _ _ ∙ ap from_bytes (simp get_or-drop at (front_4 (drop k bs) (rw length-drop (omega arith))))
+-- the test with the empty load, and where that fails, whether the row goes on
+module _ (f : Format) (before : Option Row) (r : Row) (none : List ℕ) (same : Bool) (full : length r.load ≡ length f.ceilings) (zero : none ≡ zeros f) (is : same ≡ alike r.load none) where
+  empty_is : same ≡ empty r.load
+  empty_is = is ∙ (ap (alike r.load) zero ∙ alike_zeros r.load (length f.ceilings) full)
 
-pub header_is : (f : Format) (bs : List ℕ) (h n : ℕ) → 9 ≤ length bs → get_or bs 0 0 ≡ f.mark → h ≡ from_bytes (take 4 (drop 1 bs)) → n ≡ from_bytes (take 4 (drop 5 bs))
-    → cond (lawful_horizon h) (Ok (record { horizon = h; count = n })) (Err ProfileHorizon) ≡ read_header f bs
-header_is f bs h n l m p q =
-    ap₂ (λ i j. cond (lawful_horizon i) (Ok (record { horizon = i; count = j })) (Err ProfileHorizon)) p q
-    ∙ (sym (cond-true _ _ _ (eq-eqb (get_or bs 0 0) f.mark m)) ∙ sym (cond-true _ _ _ (le-leb 9 (length bs) l)))
+  pub misloaded_then : same ≡ true → same ≡ misloaded before r
+  misloaded_then t = t ∙ ap (λ b. b || goes_on before r) (sym t ∙ empty_is)
 
-pub row_is : (f : Format) (bs : List ℕ) (o m : ℕ) (x : Result (List ℕ) LoadFault) → 8 ≤ length bs
-    → o ≡ from_bytes (take 4 (drop 0 bs)) → m ≡ from_bytes (take 4 (drop 4 bs)) → x ≡ read_front f (drop 8 bs) → with_load o m x ≡ row_at f bs
-row_is f bs o m x l p q r =
-    ap (λ i. with_load i m x) p
-    ∙ (ap (λ i. with_load (from_bytes (take 4 bs)) i x) q
-    ∙ (ap (with_load (from_bytes (take 4 bs)) (from_bytes (take 4 (drop 4 bs)))) r ∙ sym (cond-true _ _ _ (le-leb 8 (length bs) l))))
+  pub misloaded_else : same ≡ false → (on : Bool) → on ≡ goes_on before r → on ≡ misloaded before r
+  misloaded_else t on g = g ∙ ap (λ b. b || goes_on before r) (sym t ∙ empty_is)
 
-pub misloaded_is : (f : Format) (before : Option Row) (r : Row) (none : List ℕ) (a b : Bool) → length r.load ≡ length f.ceilings → none ≡ zeros f
-    → a ≡ alike r.load none → b ≡ goes_on before r → (a || b) ≡ misloaded before r
-misloaded_is f before r none a b l z p q = ap₂ ◌||◌ (p ∙ (ap (alike r.load) z ∙ alike_zeros r.load (length f.ceilings) l)) q
-
--- a number that stops at the largest leaves as much
-pub drop_told : (n : ℕ) (bs : List ℕ) → length bs < 2 ^ 64 → drop (told n) bs ≡ drop n bs
-drop_told n bs h = elim (cases_lt n (2 ^ 64)) [
-  | inl l ↦ let e : told n ≡ n = omega arith in ap (λ k. drop k bs) e
-  | inr l ↦ drop_all (told n) bs (omega arith) ∙ sym (drop_all n bs (omega arith))
-]
+-- a value, where only the error was mapped
+pub ok_kept : {T : Type 0} (r : Result T LoadFault) (v : T) → MatchResult r (λ x. ◌≡◌ {A = Result T Refusal} (Ok v) (Ok x)) (λ _. ⊥) → r ≡ Ok v
+ok_kept (Ok x) v h = let e : v ≡ x = (cc) in sym (ap Ok e)
+ok_kept (Err e) v h = absurd h

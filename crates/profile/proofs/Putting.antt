@@ -1,26 +1,15 @@
 -- Bytes put into a buffer part by part, and at a place.
-use Rattle.std.proofs.Common.{◌≡◌, ℕ, ◌+◌, ◌-◌, ◌<◌, ◌≤◌, List, [], ◌∷◌, ◌++◌, length, take, drop, set, Some, None, sym, refl, ap, ◌∙◌, ap₂, inl, inr, arith, length-append, length-drop, length-take}
+use Rattle.std.proofs.Common.{◌≡◌, ℕ, ◌+◌, ◌-◌, ◌<◌, ◌≤◌, cond, leb, List, [], ◌++◌, length, take, drop, sym, refl, ap, ◌∙◌, ap₂, inl, inr, zero-add, arith, length-append, length-drop, length-take}
 use borrow.Rule.Slice.PartMut.{put_mid}
 use Rattle.std.proofs.lemmas.List.{take_rest, drop-drop, drop_all, append-nil, append_assoc, take-append-drop, take_at, drop_at}
 use Rattle.std.proofs.lemmas.Bool.{cases_lt, le-leb, lt-leb, cond-true, cond-false}
 use Rattle.loads.specs.Formats.{put_front}
-use Rattle.loads.proofs.Fronts.{put_long, put_short, joined_put}
-use Rattle.profile.specs.Wire.{put_at, place_after}
+use Rattle.loads.proofs.Fronts.{put_long, put_short}
+use Rattle.profile.specs.Wire.{put_at}
 
--- the first byte set is one byte put
-pub set_front : (m : ℕ) (buffer : List ℕ) → 0 < length buffer → set buffer 0 m ≡ put_front (m ∷ []) buffer
-set_front m [] h = absurd (omega arith)
-set_front m (b ∷ bs) h = sym (put_long (m ∷ []) (b ∷ bs) 1 refl (omega arith))
-
--- three parts, one after another
-pub three_put : (xs ys zs buffer one two three : List ℕ) (n m k : ℕ) → length xs ≡ n → length ys ≡ m → length zs ≡ k → (n + m) + k ≤ length buffer
-    → one ≡ put_front xs buffer
-    → two ≡ put_front ys (take (length one - n) (drop n one))
-    → three ≡ put_front zs (take (length (put_mid n (length one - n) one two) - (n + m)) (drop (n + m) (put_mid n (length one - n) one two)))
-    → put_mid (n + m) (length (put_mid n (length one - n) one two) - (n + m)) (put_mid n (length one - n) one two) three ≡ put_front ((xs ++ ys) ++ zs) buffer
-three_put xs ys zs buffer one two three n m k p q r l a b c =
-    let first = joined_put xs ys buffer one two n m p q (omega arith) a b in
-    joined_put (xs ++ ys) zs buffer (put_mid n (length one - n) one two) three (n + m) k (length-append xs ys ∙ ap₂ ◌+◌ p q) r l first c
+-- put at place 0, as at the front
+put_at_front : (bs buffer : List ℕ) → put_at 0 bs buffer ≡ put_front bs buffer
+put_at_front bs buffer = ap (λ n. cond (leb n (length buffer)) (bs ++ drop n buffer) buffer) (zero-add (length bs))
 
 module _ (at : ℕ) (bs buffer : List ℕ) where
   pub put_at_long : at + length bs ≤ length buffer → put_at at bs buffer ≡ take at buffer ++ (bs ++ drop (at + length bs) buffer)
@@ -47,12 +36,6 @@ module _ (at : ℕ) (bs buffer : List ℕ) where
             rw (z, p) goal
       ]
 
-pub after_some : (at size : ℕ) (buffer : List ℕ) → at + size ≤ length buffer → Some (at + size) ≡ place_after at size buffer
-after_some at size buffer h = sym (cond-true _ _ _ (le-leb (at + size) (length buffer) h))
-
-pub after_none : (at size : ℕ) (buffer : List ℕ) → length buffer < at + size → None ≡ place_after at size buffer
-after_none at size buffer h = sym (cond-false _ _ _ (lt-leb (at + size) (length buffer) h))
-
 -- ---- one after another
 
 -- more bytes at the place after those that were put
@@ -76,3 +59,9 @@ put_more at xs ys buffer middle after next e n h a =
     ∙ (append_assoc (take at buffer) xs (ys ++ drop (at + length (xs ++ ys)) buffer)
     ∙ (ap (λ p. take at buffer ++ p) (sym (append_assoc xs ys (drop (at + length (xs ++ ys)) buffer)))
     ∙ sym (put_at_long at (xs ++ ys) buffer (omega arith))))))
+
+-- bytes at the front, and then more bytes
+pub front_more : (xs ys buffer middle after : List ℕ) (n : ℕ) → middle ≡ put_front xs buffer → n ≡ length xs → n + length ys ≤ length buffer
+    → after ≡ put_at n ys middle → after ≡ put_front (xs ++ ys) buffer
+front_more xs ys buffer middle after n e k h a =
+    put_more 0 xs ys buffer middle after n (e ∙ sym (put_at_front xs buffer)) (omega arith) (omega arith) a ∙ put_at_front (xs ++ ys) buffer

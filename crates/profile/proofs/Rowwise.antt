@@ -1,27 +1,21 @@
 -- Rows checked and written one by one, and the room that they want.
-use Rattle.std.proofs.Common.{◌≡◌, ℕ, zero, suc, ◌+◌, ◌-◌, ◌*◌, ◌/◌, ◌^◌, ◌<◌, ◌≤◌, min, leb, ◌⊎◌, List, [], ◌∷◌, ◌++◌, map, length, get_or, take, drop, Some, None, Option, sym, ap, ◌∙◌, subst, ap₂, inl, inr, mul-le-mul_right, mul_comm, add-mul, mul-zero, arith, length-append, length-drop, length-take}
-use native.Mathlib.Nat.{div-eq_of_lt}
+use Rattle.std.proofs.Common.{◌≡◌, ℕ, zero, suc, ◌+◌, ◌-◌, ◌*◌, ◌^◌, ◌<◌, ◌≤◌, Bool, true, false, cond, leb, List, [], ◌∷◌, ◌++◌, map, length, get_or, take, drop, Some, None, Option, sym, refl, ap, ◌∙◌, ap₂, inl, inr, mul-le-mul_right, mul_comm, add-mul, mul-zero, arith, length-append, length-drop, length-take}
 use lib.ListN.{length-map}
+use Rattle.std.specs.Bool.{then_some}
 use Rattle.std.specs.List.{flat_map, AllByRecursion}
-use Rattle.std.proofs.lemmas.Nat.{le-div, div-add-mod'}
-use Rattle.std.proofs.lemmas.List.{at_drop_more, flat_map_more, map_more, take-append-drop}
-use Rattle.std.proofs.lemmas.Bool.{cases_lt, leb-true, le-leb, lt-leb, cond-true, cond-false}
-use Rattle.std.proofs.lemmas.Bool.Decides.{same_from_decides}
-use Rattle.loads.specs.Formats.{Format, Counted, Lawful, told}
-use Rattle.loads.proofs.Means.{decides_leb}
-use Rattle.profile.specs.Rows.{Row, end_before, row_fault, or_fault, rows_fault}
+use Rattle.std.proofs.lemmas.List.{flat_map_more, map_more, take-append-drop}
+use Rattle.std.proofs.lemmas.Bool.{cases_lt, le-leb, lt-leb, cond-true, cond-false}
+use borrow.Rule.Slice.PartMut.{put_mid}
+use Rattle.loads.specs.Digits.{to_bytes}
+use Rattle.loads.specs.Formats.{Format, Counted, Lawful, told, put_front}
+use Rattle.loads.specs.Places.{length_to_bytes}
+use Rattle.profile.specs.Rows.{Row, end_before, rows_fault}
 use Rattle.profile.specs.Wire.{row_bytes, row_size, put_at, place_after}
 use Rattle.profile.proofs.Once.{cut}
-use Rattle.profile.proofs.Putting.{put_at_long, put_more}
+use Rattle.profile.proofs.Putting.{put_at_long, put_at_short, put_at_is, put_more}
 use Rattle.profile.proofs.Written.{length_rows, length_row}
 
 -- ---- faults
-
-pub fault_more : {X : Type 0} (view : X → Row) (h : ℕ) (before : Option Row) (xs : List X) (i : ℕ) (x : X) → i < length xs → x ≡ get_or xs i x
-    → rows_fault h before (map view (drop i xs)) ≡ or_fault (row_fault h before (view x)) (rows_fault h (Some (view x)) (map view (drop (i + 1) xs)))
-fault_more view h before xs i x l e =
-    at_drop_more (λ ys. rows_fault h before (map view ys)) xs i x l
-    ∙ ap (λ y. or_fault (row_fault h before (view y)) (rows_fault h (Some (view y)) (map view (drop (i + 1) xs)))) (sym e)
 
 -- rows without fault have a minute each, below the horizon
 pub rows_few : (h : ℕ) (before : Option Row) (rs : List Row) → rows_fault h before rs ≡ None → end_before before ≤ h → end_before before + length rs ≤ h
@@ -35,59 +29,46 @@ rows_few h before (r ∷ rs) e l =
 
 -- ---- room
 
+some_cond : (b : Bool) (n : ℕ) → then_some b n ≡ cond b (Some n) None
+some_cond true n = refl
+some_cond false n = refl
+
 -- the length of a row, which stops at the largest number
 abbrev row_told : ℕ → ℕ
 row_told size = told (8 + size)
 
--- so many rows fit what is left after the header, told by a quotient
-pub room_is : (size n room : ℕ) → 9 ≤ room → room < 2 ^ 64 → leb n ((room - 9) / row_told size) ≡ leb (9 + n * (8 + size)) room
-room_is size n room h k = same_from_decides _ _ (λ e. to (leb-true n ((room - 9) / row_told size) e), λ e. le-leb n ((room - 9) / row_told size) (from e)) (decides_leb (9 + n * (8 + size)) room)
-  where
-    to : n ≤ (room - 9) / row_told size → 9 + n * (8 + size) ≤ room
-    to l = elim (cases_lt (8 + size) (2 ^ 64)) [
-      | inl s ↦
-          let t : row_told size ≡ 8 + size = omega arith in
-          let m = mul-le-mul_right (8 + size) (subst (λ d. n ≤ (room - 9) / d) t l) in
-          omega (arith, div-add-mod' (room - 9) (8 + size))
-      | inr s ↦
-          let t : room - 9 < row_told size = omega arith in
-          let z : n ≡ 0 = omega (arith, div-eq_of_lt t) in
-          let w : n * (8 + size) ≡ 0 = ap (λ (i : ℕ). i * (8 + size)) z ∙ omega arith in
-          omega arith
-    ]
-
-    from : 9 + n * (8 + size) ≤ room → n ≤ (room - 9) / row_told size
-    from l = le-div n (room - 9) (row_told size) (omega arith) (fits (cases_lt (8 + size) (2 ^ 64)))
-      where
-        fits : (8 + size < 2 ^ 64) ⊎ (2 ^ 64 ≤ 8 + size) → n * row_told size ≤ room - 9
-        fits (inl s) = let t : row_told size ≡ 8 + size = omega arith in omega (arith, ap (λ (d : ℕ). n * d) t)
-        fits (inr s) = none n l
-          where
-            none : (i : ℕ) → 9 + i * (8 + size) ≤ room → i * row_told size ≤ room - 9
-            none zero q = omega arith
-            none (suc i) q = absurd (omega (arith, add-mul 1 i (8 + size)))
-
-pub size_told : (size n : ℕ) → min (min (row_told size * n) (2 ^ 64 - 1) + 9) (2 ^ 64 - 1) ≡ told (9 + n * (8 + size))
-size_told size n = elim (cases_lt (8 + size) (2 ^ 64)) [
+-- the place after so many rows, none where it is past the buffer
+end_is : (size n at end : ℕ) (buffer : List ℕ) → length buffer < 2 ^ 64 - 1 → end ≡ row_told size * n + at
+    → then_some (leb end (length buffer)) end ≡ place_after at (n * (8 + size)) buffer
+end_is size n at end buffer h e = elim (cases_lt (8 + size) (2 ^ 64)) [
   | inl s ↦
       let t : row_told size ≡ 8 + size = omega arith in
-      let e : row_told size * n ≡ n * (8 + size) = ap (λ (d : ℕ). d * n) t ∙ mul_comm (8 + size) n in
-      omega arith
-  | inr s ↦ large n s
+      let m : row_told size * n ≡ n * (8 + size) = ap (λ (d : ℕ). d * n) t ∙ mul_comm (8 + size) n in
+      let is : end ≡ at + n * (8 + size) = omega arith in
+      ap (λ k. then_some (leb k (length buffer)) k) is ∙ some_cond (leb (at + n * (8 + size)) (length buffer)) (at + n * (8 + size))
+  | inr s ↦ past n s e
 ]
   where
-    large : (i : ℕ) → 2 ^ 64 ≤ 8 + size → min (min (row_told size * i) (2 ^ 64 - 1) + 9) (2 ^ 64 - 1) ≡ told (9 + i * (8 + size))
-    large zero s = omega (arith, mul-zero (row_told size))
-    large (suc i) s =
+    past : (i : ℕ) → 2 ^ 64 ≤ 8 + size → end ≡ row_told size * i + at → then_some (leb end (length buffer)) end ≡ place_after at (i * (8 + size)) buffer
+    past zero s q =
+        let is : end ≡ at + 0 * (8 + size) = omega (arith, mul-zero (row_told size)) in
+        ap (λ k. then_some (leb k (length buffer)) k) is ∙ some_cond (leb (at + 0 * (8 + size)) (length buffer)) (at + 0 * (8 + size))
+    past (suc i) s q =
         let t : row_told size ≡ 2 ^ 64 - 1 = omega arith in
-        omega (arith, mul_comm (row_told size) (suc i), add-mul 1 i (row_told size), add-mul 1 i (8 + size))
+        let far : length buffer < end = omega (arith, mul_comm (row_told size) (suc i), add-mul 1 i (row_told size)) in
+        let past_all : length buffer < at + suc i * (8 + size) = omega (arith, add-mul 1 i (8 + size)) in
+        ap (λ b. then_some b end) (lt-leb end (length buffer) far) ∙ sym (cond-false _ _ _ (lt-leb (at + suc i * (8 + size)) (length buffer) past_all))
+
+pub end_told : (size n at row len end : ℕ) (buffer : List ℕ) (o : Option ℕ) → length buffer < 2 ^ 64 - 1 → row ≡ row_told size → len ≡ row * n → end ≡ len + at
+    → o ≡ then_some (leb end (length buffer)) end → o ≡ place_after at (n * (8 + size)) buffer
+end_told size n at row len end buffer o h r l e t = t ∙ end_is size n at end buffer h (e ∙ ap (λ k. k + at) (l ∙ ap (λ d. d * n) r))
 
 -- ---- places
 
-pub place_some : (n at size : ℕ) (buffer : List ℕ) → Some n ≡ place_after at size buffer → n ≡ at + size
+pub place_some : (n at size : ℕ) (buffer : List ℕ) → Some n ≡ place_after at size buffer → (n ≡ at + size) × (at + size ≤ length buffer)
 place_some n at size buffer e = elim (cases_lt (length buffer) (at + size)) [
   | inl l ↦ let q = cond-false _ (Some (at + size)) None (lt-leb (at + size) (length buffer) l) in let z : ◌≡◌ {A = ℕ} 0 1 = cc in absurd (omega arith)
-  | inr l ↦ let q = cond-true _ (Some (at + size)) None (le-leb (at + size) (length buffer) l) in cc
+  | inr l ↦ let q = cond-true _ (Some (at + size)) None (le-leb (at + size) (length buffer) l) in (cc, l)
 ]
 
 pub place_none : (at size : ℕ) (buffer : List ℕ) → None ≡ place_after at size buffer → length buffer < at + size
@@ -107,11 +88,37 @@ length_put_at at bs buffer h =
     ∙ (length-append (take at buffer) (bs ++ drop (at + length bs) buffer)
     ∙ (ap₂ ◌+◌ (length-take at buffer) (length-append bs (drop (at + length bs) buffer) ∙ ap (λ n. length bs + n) (length-drop (at + length bs) buffer)) ∙ omega arith))
 
+-- ---- one row into a buffer
+
+module _ (f : Format) (lawful : Lawful f) (r : Row) (counted : Counted f r.load) (at : ℕ) (buffer : List ℕ) where
+  pub row_kept : None ≡ place_after at (1 * row_size f) buffer → buffer ≡ put_at at (row_bytes f r) buffer
+  row_kept e =
+      let short = place_none at (1 * row_size f) buffer e in
+      sym (put_at_short at (row_bytes f r) buffer (omega (arith, length_row f lawful r counted)))
+
+  -- offset and length, and then the image after them
+  pub row_put : (end : ℕ) (span front rest : List ℕ) → Some end ≡ place_after at (1 * row_size f) buffer → span ≡ to_bytes 4 r.offset ++ to_bytes 4 r.minutes
+      → front ≡ put_front span (take (length buffer - at) (drop at buffer))
+      → rest ≡ put_front (f.image r.load) (take (length (put_mid at (length buffer - at) buffer front) - (at + 8)) (drop (at + 8) (put_mid at (length buffer - at) buffer front)))
+      → put_mid (at + 8) (length (put_mid at (length buffer - at) buffer front) - (at + 8)) (put_mid at (length buffer - at) buffer front) rest ≡ put_at at (row_bytes f r) buffer
+  row_put end span front rest e s a b =
+      let words = to_bytes 4 r.offset ++ to_bytes 4 r.minutes in
+      let one = put_mid at (length buffer - at) buffer front in
+      let l : length words ≡ 8 = length-append (to_bytes 4 r.offset) (to_bytes 4 r.minutes) ∙ ap₂ ◌+◌ (length_to_bytes 4 r.offset) (length_to_bytes 4 r.minutes) in
+      let i = lawful.sized r.load counted in
+      let fits = (place_some end at (1 * row_size f) buffer e).1 in
+      let first : one ≡ put_at at words buffer = put_at_is at span buffer front (omega arith) a ∙ ap (λ bs. put_at at bs buffer) s in
+      let same : length one ≡ length buffer = ap length first ∙ length_put_at at words buffer (omega arith) in
+      put_more at words (f.image r.load) buffer one _ (at + 8) first (omega arith) (omega arith) (put_at_is (at + 8) (f.image r.load) one rest (omega arith) b)
+
 -- ---- rows into a buffer
 
 pub all_counted : {X : Type 0} (f : Format) (view : X → Row) → ((x : X) → Counted f (view x).load) → (xs : List X) → AllByRecursion (λ r. Counted f r.load) (map view xs)
 all_counted f view c [] = tt
 all_counted f view c (x ∷ xs) = (c x, all_counted f view c xs)
+
+pub length_all : {X : Type 0} (f : Format) → Lawful f → (view : X → Row) → ((x : X) → Counted f (view x).load) → (xs : List X) → length (flat_map (row_bytes f) (map view xs)) ≡ length xs * row_size f
+length_all f lawful view c xs = length_rows f lawful (map view xs) (all_counted f view c xs) ∙ ap (λ (n : ℕ). n * row_size f) (length-map xs view)
 
 module _ {X : Type 0} (f : Format) (lawful : Lawful f) (view : X → Row) (counted : (x : X) → Counted f (view x).load) (xs : List X) (start : ℕ) (buffer : List ℕ) (room : start + length xs * row_size f ≤ length buffer) where
   -- the bytes of the first i rows
@@ -120,8 +127,7 @@ module _ {X : Type 0} (f : Format) (lawful : Lawful f) (view : X → Row) (count
 
   pub length_front : (i : ℕ) → i ≤ length xs → length (front i) ≡ i * row_size f
   length_front i l =
-      length_rows f lawful (map view (take i xs)) (all_counted f view counted (take i xs))
-      ∙ ap (λ (n : ℕ). n * row_size f) (length-map (take i xs) view ∙ (length-take i xs ∙ omega arith))
+      length_all f lawful view counted (take i xs) ∙ ap (λ (n : ℕ). n * row_size f) (length-take i xs ∙ omega arith)
 
   pub front_fits : (i : ℕ) → i ≤ length xs → start + i * row_size f ≤ length buffer
   front_fits i l = omega (arith, mul-le-mul_right (row_size f) l)

@@ -5,7 +5,7 @@ use Rattle.std.proofs.ByRecursion.{All-weaker}
 use Rattle.std.proofs.lemmas.Bool.{cases_lt, both_ways, and_from, eq-eqb}
 use Rattle.loads.specs.Counts.{alike}
 use Rattle.loads.specs.Formats.{Format, Lawful}
-use Rattle.loads.proofs.Means.{alike_is}
+use Rattle.loads.specs.Same.{alike_is}
 use Rattle.profile.specs.Rows.{Row, end_of, load_at, end_before, goes_on, rows_fault}
 use Rattle.profile.specs.Laws.{Run, InTurn, RowsAreRuns}
 use Rattle.profile.proofs.Accepts.{accepts_writings}

@@ -1,12 +1,11 @@
 -- The rows of a profile read one by one.
-use Rattle.std.proofs.Common.{◌≡◌, ℕ, zero, suc, ◌-◌, ◌<◌, List, [], ◌∷◌, ◌++◌, length, drop, Some, None, Ok, Err, Option, Result, sym, refl, ap, ◌∙◌, subst, arith}
+use Rattle.std.proofs.Common.{◌≡◌, ℕ, zero, suc, ◌+◌, ◌-◌, ◌<◌, ◌≤◌, List, [], ◌∷◌, ◌++◌, length, drop, Some, None, Ok, Err, Option, Result, sym, refl, ap, ◌∙◌, add-one, arith}
 use Rattle.std.specs.Result.{result_err}
 use Rattle.std.proofs.lemmas.List.{append_assoc, append-nil}
 use Rattle.terms.specs.declared.refusal.Refusal.{Refusal}
-use Rattle.terms.specs.declared.refusal.Refusal.TheVariants.{ProfileLength}
 use Rattle.loads.specs.Formats.{Format}
-use Rattle.profile.specs.Rows.{Row, Profile}
-use Rattle.profile.specs.Wire.{row_size, Header, read_header, next_row, prepend, then_rows, read_rows, as_profile, then_body, read_profile, header_read}
+use Rattle.profile.specs.Rows.{Row, Profile, row_fault, unless}
+use Rattle.profile.specs.Wire.{row_size, Header, read_header, row_at, checked, next_row, prepend, then_rows, read_rows, as_profile, then_body, read_profile, header_read}
 
 -- no value is two constructors
 pub ok_not_err : {X Y : Type 0} {x : X} {y : Y} → ◌≡◌ {A = Result X Y} (Err y) (Ok x) → ⊥
@@ -15,6 +14,11 @@ ok_not_err e = let z : ◌≡◌ {A = ℕ} 0 1 = cc in omega arith
 pub prepend_ok : (r : Row) (x : Result (List Row) Refusal) (rs : List Row) → prepend r x ≡ Ok rs → (qs : List Row) × (x ≡ Ok qs) × (r ∷ qs ≡ rs)
 prepend_ok r (Err g) rs h = absurd (ok_not_err h)
 prepend_ok r (Ok qs) rs h = (qs, refl, (cc))
+
+-- a fault, whatever it was asked of
+pub unless_err : {X Y : Type 0} (o : Option Refusal) (e : Refusal) (x : X) (y : Y) → Err e ≡ unless o x → unless o y ≡ Err e
+unless_err None e x y h = absurd (ok_not_err h)
+unless_err (Some g) e x y h = (cc)
 
 module _ (f : Format) (h : ℕ) where
   -- as many rows as were asked for
@@ -30,28 +34,21 @@ module _ (f : Format) (h : ℕ) where
           let k = prepend_ok r (read_rows f h (Some r) n (drop (row_size f) bs)) rs q in
           ap length (sym k.2) ∙ ap suc (next r k.0 k.1)
 
-  -- one row more, or a fault
-  pub rows_more : (n : ℕ) (before : Option Row) (bs : List ℕ) (r : Row) → 0 < n → Ok r ≡ next_row f h before bs
-      → read_rows f h before n bs ≡ prepend r (read_rows f h (Some r) (n - 1) (drop (row_size f) bs))
-  rows_more zero before bs r l e = absurd (omega arith)
-  rows_more (suc n) before bs r l e =
-      let k : n ≡ suc n - 1 = omega arith in
-      ap (λ x. then_rows x (λ q. read_rows f h (Some q) n (drop (row_size f) bs))) (sym e)
-      ∙ ap (λ m. prepend r (read_rows f h (Some r) m (drop (row_size f) bs))) k
+-- ---- one row, within what it has to keep to
 
-  pub rows_stop : (n : ℕ) (before : Option Row) (bs : List ℕ) (e : Refusal) → 0 < n → Err e ≡ next_row f h before bs → read_rows f h before n bs ≡ Err e
-  rows_stop zero before bs e l q = absurd (omega arith)
-  rows_stop (suc n) before bs e l q = ap (λ x. then_rows x (λ r. read_rows f h (Some r) n (drop (row_size f) bs))) (sym q)
+module _ (f : Format) (h n : ℕ) (before : Option Row) (bs : List ℕ) where
+  -- a row, and then the others
+  next_is : read_rows f h before (n + 1) bs ≡ then_rows (next_row f h before bs) (λ r. read_rows f h (Some r) n (drop (row_size f) bs))
+  next_is = rw add-one refl
 
-  pub rows_left : (n : ℕ) (before : Option Row) (bs : List ℕ) → n ≡ 0 → 0 < length bs → read_rows f h before n bs ≡ Err ProfileLength
-  rows_left zero before [] e l = absurd (omega arith)
-  rows_left zero before (b ∷ bs) e l = refl
-  rows_left (suc n) before bs e l = absurd (omega arith)
+  pub row_missing : (e : Refusal) → Err e ≡ row_at f bs → read_rows f h before (n + 1) bs ≡ Err e
+  row_missing e q = next_is ∙ ap (λ x. then_rows (checked h before x) (λ r. read_rows f h (Some r) n (drop (row_size f) bs))) (sym q)
 
-  pub rows_end : (n : ℕ) (before : Option Row) (bs : List ℕ) → n ≡ 0 → length bs ≡ 0 → read_rows f h before n bs ≡ Ok []
-  rows_end zero before [] e l = refl
-  rows_end zero before (b ∷ bs) e l = absurd (omega arith)
-  rows_end (suc n) before bs e l = absurd (omega arith)
+  pub row_refused : {X : Type 0} (r : Row) (e : Refusal) (x : X) → Ok r ≡ row_at f bs → Err e ≡ unless (row_fault h before r) x → read_rows f h before (n + 1) bs ≡ Err e
+  row_refused r e x q k =
+      next_is
+      ∙ (ap (λ x. then_rows (checked h before x) (λ r. read_rows f h (Some r) n (drop (row_size f) bs))) (sym q)
+      ∙ ap (λ x. then_rows x (λ r. read_rows f h (Some r) n (drop (row_size f) bs))) (unless_err (row_fault h before r) e x r k))
 
 -- ---- only whether rows can be read
 
@@ -63,15 +60,16 @@ module _ (f : Format) (bs : List ℕ) (h : Header) (header : Ok h ≡ read_heade
   read_is : read_profile f bs ≡ as_profile h.horizon (read_rows f h.horizon None h.count (drop 9 bs))
   read_is = ap (then_body f (drop 9 bs)) (sym header)
 
-  pub read_refused : (e : Refusal) → result_err (read_rows f h.horizon None h.count (drop 9 bs)) ≡ Some e → Err e ≡ header_read (read_profile f bs)
-  read_refused e q = go (read_rows f h.horizon None h.count (drop 9 bs)) refl q
+  pub read_refused : (left : Result (List Row) Refusal) → result_err (read_rows f h.horizon None h.count (drop 9 bs)) ≡ result_err left → (e : Refusal) → left ≡ Err e
+      → Err e ≡ header_read (read_profile f bs)
+  read_refused left i e q = go (read_rows f h.horizon None h.count (drop 9 bs)) refl (i ∙ ap result_err q)
     where
       go : (x : Result (List Row) Refusal) → read_rows f h.horizon None h.count (drop 9 bs) ≡ x → result_err x ≡ Some e → Err e ≡ header_read (read_profile f bs)
       go (Ok rs) p q = let z : ◌≡◌ {A = ℕ} 0 1 = cc in absurd (omega arith)
       go (Err g) p q = let is : g ≡ e = (cc) in sym (ap header_read (read_is ∙ ap (as_profile h.horizon) p) ∙ ap Err is)
 
-  pub read_passed : result_err (read_rows f h.horizon None h.count (drop 9 bs)) ≡ None → Ok h ≡ header_read (read_profile f bs)
-  read_passed q = go (read_rows f h.horizon None h.count (drop 9 bs)) refl q
+  pub read_passed : (left : Result (List Row) Refusal) → result_err (read_rows f h.horizon None h.count (drop 9 bs)) ≡ result_err left → left ≡ Ok [] → Ok h ≡ header_read (read_profile f bs)
+  read_passed left i q = go (read_rows f h.horizon None h.count (drop 9 bs)) refl (i ∙ ap result_err q)
     where
       go : (x : Result (List Row) Refusal) → read_rows f h.horizon None h.count (drop 9 bs) ≡ x → result_err x ≡ None → Ok h ≡ header_read (read_profile f bs)
       go (Err g) p q = let z : ◌≡◌ {A = ℕ} 0 1 = cc in absurd (omega arith)
@@ -94,37 +92,51 @@ pub after_push : (rs : List Row) (r : Row) (x : Result (List Row) Refusal) → a
 after_push rs r (Ok qs) = ap Ok (sym (append_assoc rs (r ∷ []) qs))
 after_push rs r (Err e) = refl
 
-pub rows_ended : (f : Format) (h n : ℕ) (before : Option Row) (bs : List ℕ) (rs qs : List Row) → n ≡ 0 → after rs (read_rows f h before n bs) ≡ Ok qs → rs ≡ qs
-rows_ended f h zero before [] rs qs e q = sym (append-nil rs) ∙ (cc)
-rows_ended f h zero before (b ∷ bs) rs qs e q = absurd (ok_not_err q)
-rows_ended f h (suc n) before bs rs qs e q = absurd (omega arith)
+-- the rows that were read are those that were pushed, and no fault came between
+pub rows_ended : (f : Format) (h : ℕ) (before : Option Row) (bs : List ℕ) (x left : Result (List Row) Refusal) (rs qs : List Row) → x ≡ after rs left → left ≡ read_rows f h before 0 bs
+    → x ≡ Ok qs → rs ≡ qs
+rows_ended f h before [] x left rs qs i l q = let e : x ≡ Ok (rs ++ []) = i ∙ ap (after rs) l in sym (append-nil rs) ∙ (cc)
+rows_ended f h before (b ∷ bs) x left rs qs i l q = absurd (ok_not_err (sym (i ∙ ap (after rs) l) ∙ q))
+
+pub not_stopped : (x left : Result (List Row) Refusal) (rs qs : List Row) (e : Refusal) → x ≡ after rs left → left ≡ Err e → x ≡ Ok qs → ⊥
+not_stopped x left rs qs e i l q = ok_not_err (sym (i ∙ ap (after rs) l) ∙ q)
+
+-- ---- a row taken from those that are left
+
+module _ (on next : ℕ → Result (List Row) Refusal) (n i : ℕ) (some : i < n) where
+  left_is : n - i ≡ (n - (i + 1)) + 1
+  left_is = omega arith
+
+  pub left_stop : (e : Refusal) → ((k : ℕ) → on (k + 1) ≡ Err e) → on (n - i) ≡ Err e
+  left_stop e stop = ap on left_is ∙ stop (n - (i + 1))
+
+  left_more : (r : Row) → ((k : ℕ) → on (k + 1) ≡ prepend r (next k)) → on (n - i) ≡ prepend r (next (n - (i + 1)))
+  left_more r more = ap on left_is ∙ more (n - (i + 1))
+
+  pub err_more : (r : Row) → ((k : ℕ) → on (k + 1) ≡ prepend r (next k)) → result_err (on (n - i)) ≡ result_err (next (n - (i + 1)))
+  err_more r more = ap result_err (left_more r more) ∙ err_prepend r (next (n - (i + 1)))
+
+  pub after_more : (rs qs : List Row) (r : Row) → qs ≡ rs ++ r ∷ [] → ((k : ℕ) → on (k + 1) ≡ prepend r (next k)) → after rs (on (n - i)) ≡ after qs (next (n - (i + 1)))
+  after_more rs qs r e more =
+      ap (after rs) (left_more r more) ∙ (after_push rs r (next (n - (i + 1))) ∙ ap (λ ps. after ps (next (n - (i + 1)))) (sym e))
+
+pub left_none : (on : ℕ → Result (List Row) Refusal) (n i : ℕ) → n ≤ i → (x : Result (List Row) Refusal) → x ≡ on 0 → on (n - i) ≡ x
+left_none on n i h x q = let e : n - i ≡ 0 = omega arith in ap on e ∙ sym q
+
+pub left_all : (on next : ℕ → Result (List Row) Refusal) (n : ℕ) → ((k : ℕ) → next k ≡ on k) → on n ≡ next (n - 0)
+left_all on next n same = let e : n ≡ n - 0 = omega arith in ap on e ∙ sym (same (n - 0))
 
 -- ---- from the header of a profile to its rows
-
-pub header_refused : (x : Result Profile Refusal) (e : Refusal) → Err e ≡ header_read x → x ≡ Err e
-header_refused (Ok p) e q = absurd (ok_not_err q)
-header_refused (Err g) e q = (cc)
 
 pub record Passed (f : Format) (bs : List ℕ) (h : Header) : Type 0 where
   pub rows : List Row
   pub read : read_rows f h.horizon None h.count (drop 9 bs) ≡ Ok rows
   pub is : read_profile f bs ≡ Ok (record { horizon = h.horizon; rows = rows })
 
-abbrev header : ℕ → ℕ → Header
-header horizon count = record { horizon = horizon; count = count }
-
-pub header_passed : (f : Format) (bs : List ℕ) (h : Header) → Ok h ≡ header_read (read_profile f bs) → Passed f bs h
-header_passed f bs h q = go (read_header f bs) refl q
+-- of a profile that was read
+pub passed : (f : Format) (bs : List ℕ) (h : Header) → Ok h ≡ read_header f bs → (p : Profile) → read_profile f bs ≡ Ok p → Passed f bs h
+passed f bs h header p e = go (read_rows f h.horizon None h.count (drop 9 bs)) refl (sym (read_is f bs h header) ∙ e)
   where
-    body : (k : Header) → read_header f bs ≡ Ok k → (x : Result (List Row) Refusal) → read_rows f k.horizon None k.count (drop 9 bs) ≡ x
-        → Ok h ≡ header_read (as_profile k.horizon x) → Passed f bs h
-    body k e (Err g) p q = absurd (ok_not_err (sym q))
-    body k e (Ok rs) p q =
-        let n = rows_many f k.horizon k.count None (drop 9 bs) rs p in
-        let is : record { horizon = k.horizon; count = length rs } ≡ h = (let z = sym q in cc) in
-        let same : k ≡ h = ap (λ c. header k.horizon c) (sym n) ∙ is in
-        subst (Passed f bs) same (record { rows = rs; read = p; is = ap (then_body f (drop 9 bs)) e ∙ ap (as_profile k.horizon) p })
-
-    go : (x : Result Header Refusal) → read_header f bs ≡ x → Ok h ≡ header_read (then_body f (drop 9 bs) x) → Passed f bs h
-    go (Err g) e q = absurd (ok_not_err (sym q))
-    go (Ok k) e q = body k e (read_rows f k.horizon None k.count (drop 9 bs)) refl q
+    go : (x : Result (List Row) Refusal) → read_rows f h.horizon None h.count (drop 9 bs) ≡ x → as_profile h.horizon x ≡ Ok p → Passed f bs h
+    go (Err g) q r = absurd (ok_not_err r)
+    go (Ok rs) q r = record { rows = rs; read = q; is = read_is f bs h header ∙ ap (as_profile h.horizon) q }

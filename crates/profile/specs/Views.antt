@@ -1,14 +1,16 @@
 -- The code's rows, headers and profiles as the definitions have them.
-use Rattle.std.specs.Prelude.{◌≡◌, ℕ, ◌<◌, List, map, length, Ok, Err, vec_items, Result, Vec}
-use Rattle.std.specs.declared.alloc.Global.{Global}
+use Rattle.std.specs.Prelude.{◌≡◌, ℕ, ◌<◌, List, map, length, Ok, Err, vec_items, Option, Result}
+use Rattle.std.specs.Option.{option_map}
+use Rattle.loads.specs.Formats.{Format}
 use Rattle.terms.specs.declared.refusal.Refusal.{Refusal as Reason}
+use Rattle.profile.specs.declared.limits.Limits.{Limits}
 use Rattle.profile.specs.declared.row.Row.{Row as HeldRow}
 use Rattle.profile.specs.declared.row.Header.{Header as HeldHeader}
 use Rattle.profile.specs.declared.row.Profile.{Profile as HeldProfile}
 use Rattle.profile.specs.declared.row.ReadError.{ReadError}
 use Rattle.profile.specs.declared.row.ReadError.TheVariants.{Refused, OutOfMemory}
 use Rattle.profile.specs.Rows.{Row, Profile}
-use Rattle.profile.specs.Wire.{Header}
+use Rattle.profile.specs.Wire.{Header, read_rows}
 
 -- a row, its load told by the counts
 abbrev pub row_of : {L : Type 0} → (L → List ℕ) → HeldRow L → Row
@@ -26,8 +28,10 @@ Tells counts read (Ok p) = read ≡ Ok (profile_of counts p.horizon (vec_items p
 Tells counts read (Err (Refused e)) = read ≡ Err e
 Tells counts read (Err OutOfMemory) = (p : Profile) × (read ≡ Ok p) × (0 < length p.rows)
 
--- the same of rows alone, where they can be read
-abbrev pub Collects : {L : Type 0} → (L → List ℕ) → List Row → Result (Vec (HeldRow L) Global) ReadError → Type 0
-Collects counts rs (Ok v) = map (row_of counts) (vec_items v) ≡ rs
-Collects counts rs (Err (Refused e)) = ⊥
-Collects counts rs (Err OutOfMemory) = 0 < length rs
+-- the row before the next one
+abbrev pub before_of : {K L : Type 0} → (L → List ℕ) → Limits K L → Option Row
+before_of counts limits = option_map (row_of counts) limits.before
+
+-- so many rows read on from bytes, the next one within the limits
+abbrev pub read_on : {K L : Type 0} → Format → (L → List ℕ) → Limits K L → List ℕ → ℕ → Result (List Row) Reason
+read_on f counts limits rest n = read_rows f limits.horizon (before_of counts limits) n rest

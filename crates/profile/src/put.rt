@@ -1,51 +1,62 @@
 // The parts of a profile, written into a buffer: a header at its front, a row at a place.
-ghost use Rattle.std.specs.Prelude.{◌≡◌, length, nat_le};
-ghost use Rattle.loads.specs.Formats.{put_front};
+ghost use Rattle.std.specs.Prelude.{◌≡◌, ◌*◌, ◌++◌, length};
+ghost use Rattle.loads.specs.Digits.{to_bytes};
+ghost use Rattle.loads.specs.Formats.{told, put_front};
 ghost use Rattle.profile.specs.Views.{row_of};
 ghost use Rattle.profile.specs.Wire.{row_bytes, row_size, header_bytes, put_at, place_after};
 
 use crate::row::{Header, Row};
 use loads::kind::Kind;
-use loads::word::put_u32;
+use loads::word::put_front;
+
+/// The mark, the horizon and the number of rows.
+pub(crate) const HEADER_LEN: usize = 9;
+
+/// The offset and the length of a row, which stand before its image.
+const SPAN_LEN: usize = 8;
+
+/// How many bytes a row has, or the largest number where they are more.
+pub(crate) fn row_len<K: Kind>() -> u64
+    ensures { result ≡ told (row_size K.Kind.format) }
+{
+    K::image_len().saturating_add(SPAN_LEN as u64)
+}
+
+/// The place after so many rows from a place on, if the buffer goes so far.
+pub(crate) fn rows_end<K: Kind>(at: usize, rows: usize, buffer: &[u8]) -> Option<usize>
+    ensures { result ≡ place_after at (rows * row_size K.Kind.format) buffer.now }
+{
+    let len = row_len::<K>().checked_mul(rows as u64)?;
+    let end = len.checked_add(at as u64)?;
+    (end <= buffer.len() as u64).then_some(end as usize)
+}
+
+fn word_pair(first: u32, second: u32) -> [u8; SPAN_LEN]
+    ensures { result ≡ to_bytes 4 first ++ to_bytes 4 second }
+{
+    let [a, b, c, d] = first.to_be_bytes();
+    let [e, f, g, h] = second.to_be_bytes();
+    [a, b, c, d, e, f, g, h]
+}
 
 /// Writes the header at the front of the buffer and tells the place after it; nothing where the buffer is too short.
 pub fn put_header<K: Kind>(header: Header, buffer: &mut [u8]) -> Option<usize>
     ensures place { result ≡ place_after 0 9 buffer.old }
     ensures after { buffer.new ≡ put_front (header_bytes K.Kind.format header.horizon header.count) buffer.old }
 {
-    if buffer.len() < 9 {
-        return None;
-    }
-    // There is room for all three, so none is left out.
-    buffer[0] = K::kind_mark();
-    put_u32(header.horizon, &mut buffer[1..]);
-    put_u32(header.count, &mut buffer[5..]);
-    Some(9)
-}
-
-fn put_row_front<K: Kind>(row: Row<K::Load>, buffer: &mut [u8]) -> bool
-    ensures fits { result ≡ nat_le (row_size K.Kind.format) (length buffer.old) }
-    ensures after { buffer.new ≡ put_front (row_bytes K.Kind.format (row_of K.Kind.counts row)) buffer.old }
-{
-    let room = buffer.len() as u64;
-    if room < 8 || room - 8 < K::image_len() {
-        return false;
-    }
-    put_u32(row.offset, buffer);
-    put_u32(row.length, &mut buffer[4..]);
-    K::put(row.load, &mut buffer[8..])
+    let [h0, h1, h2, h3, n0, n1, n2, n3] = word_pair(header.horizon, header.count);
+    put_front(&[K::MARK, h0, h1, h2, h3, n0, n1, n2, n3], buffer).ok()?;
+    Some(HEADER_LEN)
 }
 
 /// Writes the row at a place of the buffer and tells the place after it; nothing where it does not fit there.
+// The place stands beside the buffer, and no writer holds both: a row goes to any place of any buffer.
 pub fn put_row<K: Kind>(row: Row<K::Load>, at: usize, buffer: &mut [u8]) -> Option<usize>
     ensures place { result ≡ place_after at (row_size K.Kind.format) buffer.old }
     ensures after { buffer.new ≡ put_at at (row_bytes K.Kind.format (row_of K.Kind.counts row)) buffer.old }
 {
-    if buffer.len() < at {
-        return None;
-    }
-    if !put_row_front::<K>(row, &mut buffer[at..]) {
-        return None;
-    }
-    Some(at + 8 + K::image_len() as usize)
+    let end = rows_end::<K>(at, 1, buffer)?;
+    put_front(&word_pair(row.offset, row.length), &mut buffer[at..]).ok()?;
+    K::put(row.load, &mut buffer[at + SPAN_LEN..]).ok()?;
+    Some(end)
 }

@@ -1,16 +1,25 @@
 // A profile as the code holds it: its header, its rows, and why there is none.
-ghost use Rattle.std.specs.Prelude.{◌≡◌};
+ghost use Rattle.std.specs.Prelude.{◌≡◌, ◌+◌};
 ghost use Rattle.profile.specs.declared.row.ReadError.TheVariants.{Refused as RefusedWith, OutOfMemory};
 
 use std::alloc::AllocFailed;
 use terms::refusal::Refusal;
 
 /// So many minutes from an offset on, with one load.
-#[derive(Clone, Copy)]
+#[derive(Clone, Copy, PartialEq, Eq, Debug)]
 pub struct Row<L> {
     pub offset: u32,
     pub length: u32,
     pub load: L,
+}
+
+impl<L: Copy> Row<L> {
+    // The minute after its last; 32 bits may not hold it.
+    pub(crate) fn end(self) -> u64
+        ensures { result ≡ self.offset + self.length }
+    {
+        u64::from(self.offset) + u64::from(self.length)
+    }
 }
 
 /// What stands before the rows: the horizon in minutes, and how many rows follow.
@@ -21,7 +30,7 @@ pub struct Header {
 }
 
 /// A horizon in minutes, and the rows below it.
-#[derive(Drop)]
+#[derive(PartialEq, Eq, Debug, Drop)]
 pub struct Profile<L> {
     pub horizon: u32,
     pub rows: Vec<Row<L>>,

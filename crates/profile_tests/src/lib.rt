@@ -16,9 +16,7 @@ mod tests {
     type Nested = Pair<Pair<Airtime, Crews>, Airtime>;
 
     fn airtime(offset: u32, length: u32, rate: u32) -> Result<Row<AirtimeLoad>, Fail> {
-        let Some(load) = AirtimeLoad::of(rate) else {
-            return Err(Fail::new("above the ceiling"));
-        };
+        let load = AirtimeLoad::try_from(rate).map_err(|_| Fail::new("above the ceiling"))?;
         Ok(Row {
             offset,
             length,
@@ -28,9 +26,7 @@ mod tests {
 
     #[test]
     fn marks_are_those_of_the_kinds(rt: HostRuntime) {
-        assert_eq!(rt; Airtime::MARK, Airtime::kind_mark());
-        assert_eq!(rt; Crews::MARK, Crews::kind_mark());
-        assert_eq!(rt; Nested::MARK, Nested::kind_mark());
+        assert_eq!(rt; [Airtime::MARK, Crews::MARK, Nested::MARK], [1, 2, 3]);
     }
 
     #[test]
@@ -76,7 +72,7 @@ mod tests {
         let air = airtime(0, 1, 258)?.load;
         let first = PairLoad {
             first: air,
-            second: CrewsLoad::of(5),
+            second: CrewsLoad::from(5),
         };
         let load = PairLoad { first, second: air };
         let rows = [Row {
@@ -87,13 +83,8 @@ mod tests {
         let mut buffer = [0u8; 33];
         assert_eq!(rt; write::<Nested>(10, &rows, &mut buffer), Ok(33));
         assert_eq!(rt; check_profile::<Airtime>(&buffer), Err(Refusal::OtherMark));
-        match read::<Nested>(rt.alloc(), &buffer) {
-            Ok(profile) => {
-                assert!(rt; profile.rows.len() == 1);
-                assert!(rt; Nested::same(profile.rows[0].load, load));
-                Ok(())
-            }
-            Err(_) => Err(Fail::new("refused")),
-        }
+        let profile = read::<Nested>(rt.alloc(), &buffer).map_err(|_| Fail::new("refused"))?;
+        assert_eq!(rt; profile.rows.as_slice(), rows.as_slice());
+        Ok(())
     }
 }

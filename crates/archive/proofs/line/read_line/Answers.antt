@@ -1,25 +1,18 @@
-use Rattle.std.proofs.Common.{◌<◌, length, is_some, Some, None, vec_items, sym, refl, ap, ◌∙◌, arith}
-use Rattle.std.specs.Option.{option_map}
+use Rattle.std.proofs.Common.{◌≡◌, is_some, Some, None, Option, sym, refl, ap, ap₂, ◌∙◌}
+use Rattle.std.specs.Option.{option_map, option_and_then, option_zip}
 use Rattle.std.proofs.lemmas.Result.{err_from_is_err_and}
-use Rattle.archive.proofs.Lines.{line_is, some_filing}
+use Rattle.text.specs.Hex.{hex_bytes}
+use Rattle.archive.specs.Grammar.{kind_of}
 use Rattle.archive.proofs.line.read_line.Goals as goal
+
+some_zip : {A B : Type 0} (a : A) (o : Option B) → is_some (option_zip (Some a) o) ≡ is_some o
+some_zip a None = refl
+some_zip a (Some b) = refl
 
 pub returns-in_err-bytes : goal.returns-in_err-bytes
 returns-in_err-bytes c =
-    let below : c.word-end.result < length c.args.line.now = omega arith in
     let p = err_from_is_err_and c.from_residual.result c.from_residual.ensures.1 in
+    let there = c.in-Ok-Some in
     rw p.1
-    (ap is_some (sym (line_is c.args.line.now c.word-end.result (Some c.in-Some.kind) _ c.word-end.ensures.value c.in-Some.ensures below refl))
-    ∙ (some_filing c.in-Some.kind _ ∙ c.in_err-bytes.ensures.0))
-
-pub returns-in-Some-2 : goal.returns-in-Some-2
-returns-in-Some-2 c =
-    let below : c.word-end.result < length c.args.line.now = omega arith in
-    line_is c.args.line.now c.word-end.result (Some c.in-Some.kind) (Some (vec_items c.in-Some-2.bytes)) c.word-end.ensures.value c.in-Some.ensures below
-    (sym (ap (option_map vec_items) c.in-Some-2.is) ∙ c.in_ok-bytes.ensures)
-
-pub returns-in-None : goal.returns-in-None
-returns-in-None c =
-    let below : c.word-end.result < length c.args.line.now = omega arith in
-    line_is c.args.line.now c.word-end.result (Some c.in-Some.kind) None c.word-end.ensures.value c.in-Some.ensures below
-    (sym (ap (option_map vec_items) c.in-None.is) ∙ c.in_ok-bytes.ensures)
+    (sym (ap₂ (λ k r. is_some (option_zip k (option_and_then hex_bytes r))) (there.ensures ∙ ap kind_of c.word.ensures.word) (sym (ap (option_map (λ s. s.now)) there.is-1) ∙ c.word.ensures.rest))
+    ∙ (some_zip there.kind (hex_bytes there.digits.now) ∙ c.in_err-bytes.ensures.0))

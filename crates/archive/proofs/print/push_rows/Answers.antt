@@ -1,16 +1,15 @@
-use Rattle.std.proofs.Common.{vec_items, ◌∙◌}
-use Rattle.profile.specs.Views.{row_of}
-use Rattle.archive.specs.Texts.{row_text}
-use Rattle.archive.proofs.Pushes.{items_more, items_all}
+use Rattle.std.proofs.Common.{◌≡◌, ◌-◌, ◌^◌, ◌<◌, length, ◌∙◌, arith}
+use Rattle.std.proofs.lemmas.Grind.{common_steps}
+use Rattle.loads.specs.Formats.{told}
+use Rattle.archive.proofs.Rows.{image_put}
 use Rattle.archive.proofs.print.push_rows.Goals as goal
 
 pub loop-row-preserved : goal.loop-row-preserved
 loop-row-preserved g c =
-    items_more (row_text g.K.Kind.format) (row_of g.K.Kind.counts) c.args.rows.now c.loop-row.row-index c.row-item.result
-    (vec_items c.loop-row.out) _ c.loop-row-test.true c.row-item.is c.in_ok-push_row.ensures
-    ∙ c.loop-row.invariant
-
-pub returns : goal.returns
-returns g c =
-    items_all (row_text g.K.Kind.format) (row_of g.K.Kind.counts) c.args.rows.now c.loop-row.row-index (vec_items c.loop-row.out) c.loop-row-test.false
-    ∙ c.loop-row.invariant
+    let f = g.K.Kind.format in
+    let load = c.row-item.result.load in
+    let long : length c.loop-row.image ≡ told f.size = c.loop-row.auto.image ∙ (c.as_mut_slice-image.ensures.len ∙ (c.in_ok-room.ensures.len ∙ c.image_len.ensures)) in
+    let small : length c.loop-row.image < 2 ^ 64 - 1 = omega (arith, c.loop-row.auto.image, c.as_mut_slice-image.ensures.len) in
+    let image : c.put.new.buffer ≡ f.image (g.K.Kind.counts load) =
+    image_put f (g.K.Kind.counts load) c.loop-row.image c.put.new.buffer g.met.K.Kind.lawful (g.met.K.Kind.counted load) long small c.put.ensures.after in
+    grind (arith, common_steps)

@@ -1,40 +1,30 @@
-use Rattle.std.proofs.Common.{◌-◌, ◌<◌, [], ◌∷◌, ◌++◌, length, take, sym, refl, ap, ◌∙◌, arith}
-use Rattle.std.proofs.lemmas.Result.{err_from_is_err_and, IfOk-weaker}
-use Rattle.std.proofs.lemmas.Bool.{eqb-true, eqb-false}
-use Rattle.archive.specs.Findings.{finding}
-use Rattle.archive.specs.Reports.{findings_text, findings_of}
-use Rattle.archive.proofs.Drafts.{line_more, lines_fit, lines_end}
-use Rattle.archive.proofs.Marks.{one_kind, one_writing_each}
+use Rattle.std.proofs.Common.{vec_items, sym, ap, ◌∙◌}
+use Rattle.archive.specs.Views.{verdict_of}
+use Rattle.archive.proofs.Writings.{one_writing_each}
+use Rattle.archive.proofs.Totals.{accepted_more, rejected_more}
 use Rattle.archive.proofs.report.report.Goals as goal
 
-pub add-requires : goal.add-requires
-add-requires c =
-    let some : 0 < length c.loop-rest.rest.now = omega (arith, eqb-false (length c.loop-rest.rest.now) 0 (sym c.loop-rest-test.ensures)) in
-    let inv = c.loop-rest.invariant in
-    (inv.0, inv.1, lines_fit inv.0 c.loop-rest.rest.now c.args.input.now inv.2 some (omega arith))
+pub loop-line-preserved-in-Continue-branch-3 : goal.loop-line-preserved-in-Continue-branch-3
+loop-line-preserved-in-Continue-branch-3 c =
+    accepted_more c.loop-line.yielded c.in-Some.line (vec_items c.loop-line.text) (vec_items c.answer.new.out) (vec_items c.loop-line.accepted) _ (vec_items c.loop-line.rejections) c.in-Ok.bytes
+    c.loop-line.invariant c.in_ok-bytes.ensures.text (sym (ap verdict_of c.in-Ok.is) ∙ c.in_ok-bytes.ensures.verdict) c.in_ok-push-in-Ok.ensures.items
 
-pub returns-in_err-add : goal.returns-in_err-add
-returns-in_err-add c =
-    let p = err_from_is_err_and c.from_residual.result c.from_residual.ensures.1 in
-    record { text = rw p.1 tt; one_kind = one_kind; one_writing = one_writing_each }
+pub loop-line-preserved : goal.loop-line-preserved
+loop-line-preserved c =
+    rejected_more c.loop-line.yielded c.in-Some.line (vec_items c.loop-line.text) (vec_items c.answer.new.out) (vec_items c.loop-line.accepted) (vec_items c.loop-line.rejections) _ c.in-Err.rejection
+    c.loop-line.invariant c.in_ok-bytes.ensures.text (sym (ap verdict_of c.in-Err.is) ∙ c.in_ok-bytes.ensures.verdict) c.in_ok-push-in-Err.ensures.items
 
-pub loop-rest-preserved : goal.loop-rest-preserved
-loop-rest-preserved c =
-    let rest = c.loop-rest.rest.now in
-    let cut = c.next_line-line in
-    let some : 0 < length rest = omega (arith, eqb-false (length rest) 0 (sym c.loop-rest-test.ensures)) in
-    let inv = c.loop-rest.invariant in (
-      inv.0 ++ (finding (take (cut.result.line - 0) rest) ∷ []),
-      c.in_ok-add.ensures inv.0 inv.1,
-      line_more inv.0 (findings_of c.args.input.now) rest _ cut.result.line cut.result.next inv.2 some cut.ensures.line cut.ensures.next refl,
-    )
+pub returns-in_err-bytes-clause-one_writing : goal.returns-in_err-bytes-clause-one_writing
+returns-in_err-bytes-clause-one_writing c = one_writing_each
 
-pub returns : goal.returns
-returns c =
-    let inv = c.loop-rest.invariant in
-    let done = lines_end inv.0 c.loop-rest.rest.now c.args.input.now inv.2 (eqb-true (length c.loop-rest.rest.now) 0 (sym c.loop-rest-test.ensures)) in
-    record {
-      text = IfOk-weaker c.finish.result _ _ (λ v told. told inv.0 inv.1 ∙ ap findings_text done) c.finish.ensures;
-      one_kind = one_kind;
-      one_writing = one_writing_each;
-    }
+pub returns-in_err-push-in-Ok-clause-one_writing : goal.returns-in_err-push-in-Ok-clause-one_writing
+returns-in_err-push-in-Ok-clause-one_writing c = one_writing_each
+
+pub returns-in_err-push-in-Err-clause-one_writing : goal.returns-in_err-push-in-Err-clause-one_writing
+returns-in_err-push-in-Err-clause-one_writing c = one_writing_each
+
+pub returns-in_err-push_totals-clause-one_writing : goal.returns-in_err-push_totals-clause-one_writing
+returns-in_err-push_totals-clause-one_writing c = one_writing_each
+
+pub returns-clause-one_writing : goal.returns-clause-one_writing
+returns-clause-one_writing c = one_writing_each

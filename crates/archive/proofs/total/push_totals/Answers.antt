@@ -1,19 +1,22 @@
-use Rattle.std.proofs.Common.{◌++◌, vec_items, codes}
-use Rattle.archive.specs.Texts.{feed, field}
-use Rattle.archive.proofs.Pushes.{push_more, push_last}
+use Rattle.std.proofs.Common.{◌≡◌, ◌++◌, ◌+◌, ◌-◌, length, count_by, vec_items, OnOk, ap, ◌∙◌, rules, arith}
+use Rattle.std.proofs.lemmas.Result.{on_ok_weaker, IfOk-equal}
+use Rattle.std.proofs.lemmas.List.Sums.{count_by-le-length}
+use Rattle.std.proofs.lemmas.List.{append_assoc}
+use Rattle.archive.specs.Reports.{total_text}
+use Rattle.archive.proofs.Totals.{is_bad_line, totals, totals_is}
 use Rattle.archive.proofs.total.push_totals.Goals as goal
 
 pub returns : goal.returns
 returns c =
     let out = vec_items c.args.out.now in
-    let t = c.args.totals in
-    let total = field (codes "total ") t.total in
-    let ok = field (codes " ok ") t.ok in
-    let refused = field (codes " refused ") t.refused in
-    let bad = field (codes " bad ") t.bad in
-    let distinct = field (codes " distinct ") t.distinct in
-    let two = push_more out total ok c.in_ok-push_field.ensures c.in_ok-push_field-2.ensures in
-    let three = push_more out (total ++ ok) refused two c.in_ok-push_field-3.ensures in
-    let four = push_more out (total ++ ok ++ refused) bad three c.in_ok-push_field-4.ensures in
-    let five = push_more out (total ++ ok ++ refused ++ bad) distinct four c.in_ok-push_field-5.ensures in
-    push_last c.extend_from_slice.result out (total ++ ok ++ refused ++ bad ++ distinct) feed _ _ five c.extend_from_slice.ensures.items
+    let rs = c.args.rejections.now in
+    let ok = c.len-ok.result in
+    let bad = c.count-bad.result in
+    let refused = length rs - bad in
+    let d = c.distinct-distinct in
+    let b : bad ≡ count_by is_bad_line rs = search rules in
+    let all : refused + bad ≡ length rs = omega (arith, count_by-le-length is_bad_line rs) in
+    let told : OnOk c.push_line.result (vec_items c.push_line.new.out ≡ out ++ total_text (totals (ok + refused + bad) ok refused bad d.result)) = search (rules, IfOk-equal, append_assoc) in
+    on_ok_weaker c.push_line.result
+    (λ e fs s. e ∙ ap (λ t. out ++ total_text t) (totals_is fs (vec_items c.args.accepted) rs ok refused bad d.result s (c.len-ok.ensures ∙ c.args.accepted.ok.0) b all d.ensures))
+    told

@@ -1,13 +1,8 @@
-use Rattle.std.proofs.Common.{◌≡◌, ◌+◌, ◌*◌, ◌≤◌, map, length, Some, ap, ◌∙◌, add-mul, arith}
-use Rattle.std.specs.List.{flat_map}
-use Rattle.std.proofs.lemmas.List.{take_all}
+use Rattle.std.proofs.Common.{◌+◌, ◌*◌, ◌≤◌, length, add-mul, arith}
 use Rattle.profile.specs.Views.{row_of}
-use Rattle.profile.specs.Wire.{row_bytes, row_size, put_at}
-use Rattle.profile.proofs.Rowwise.{place_some, place_none, put_at_none, front_fits, length_middle, rows_put_more}
+use Rattle.profile.specs.Wire.{row_size}
+use Rattle.profile.proofs.Rowwise.{place_some, place_none, front_fits, length_middle, rows_put_more}
 use Rattle.profile.proofs.write.put_rows.Goals as goal
-
-pub loop-row-init : goal.loop-row-init
-loop-row-init g c room = (omega arith, put_at_none c.args.start c.args.buffer.now (omega arith))
 
 pub returns-in_err-at : goal.returns-in_err-at
 returns-in_err-at g c =
@@ -25,18 +20,7 @@ loop-row-preserved g c room =
     let f = g.K.Kind.format in
     let view = row_of g.K.Kind.counts in
     let i = c.loop-row.invariant room in (
-      omega (arith, place_some c.in_ok-at.at c.loop-row.at (row_size f) c.loop-row.buffer c.in_ok-at.ensures.place, add-mul c.loop-row.row-index 1 (row_size f)),
+      omega (arith, (place_some c.in_ok-at.at c.loop-row.at (row_size f) c.loop-row.buffer c.in_ok-at.ensures.place).0, add-mul c.loop-row.row-index 1 (row_size f)),
       rows_put_more f g.met.K.Kind.lawful view (λ x. g.met.K.Kind.counted x.load) c.args.rows.now c.args.start c.args.buffer.now room
           c.loop-row.row-index c.loop-row.at c.row-item.result c.loop-row.buffer c.put_row.new.buffer c.loop-row-test.true c.row-item.is i.0 i.1 c.in_ok-at.ensures.after,
     )
-
-pub returns : goal.returns
-returns g c =
-    let f = g.K.Kind.format in
-    let view = row_of g.K.Kind.counts in
-    let n : c.loop-row.row-index ≡ length c.args.rows.now = omega arith in
-    record {
-      place = λ room. ap Some ((c.loop-row.invariant room).0 ∙ ap (λ i. c.args.start + i * row_size f) n);
-      after = λ room. (c.loop-row.invariant room).1
-          ∙ ap (λ xs. put_at c.args.start (flat_map (row_bytes f) (map view xs)) c.args.buffer.now) (take_all c.loop-row.row-index c.args.rows.now (omega arith));
-    }
