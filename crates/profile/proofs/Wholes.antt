@@ -11,11 +11,15 @@ use Rattle.loads.proofs.Fronts.{put_long, put_short}
 use Rattle.profile.specs.Rows.{Row, Profile, rows_fault, profile_fault, unless}
 use Rattle.profile.specs.Wire.{row_bytes, header_bytes, profile_bytes, profile_size, written, place_after, read_profile}
 use Rattle.profile.specs.Laws.{Writable, FitsBytes}
+use Rattle.profile.proofs.Accepts.{unless_ok}
 use Rattle.profile.proofs.Once.{cut, fault_free}
 use Rattle.profile.proofs.Rowwise.{rows_few, place_some, place_none}
 use Rattle.profile.proofs.Written.{length_profile, reads_back}
 
 -- ---- what bytes can hold
+
+pub faultless : {X : Type 0} (p : Profile) (x y : X) → Ok y ≡ unless (profile_fault p) x → profile_fault p ≡ None
+faultless p x y e = (unless_ok (profile_fault p) x y (sym e)).0
 
 horizon_short : (p : Profile) → profile_fault p ≡ None → p.horizon ≤ 1000000000
 horizon_short p e = leb-true p.horizon 1000000000 (and_parts (ltb 0 p.horizon) (leb p.horizon 1000000000) (fault_free p e).0).1
