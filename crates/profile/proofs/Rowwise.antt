@@ -3,7 +3,7 @@ use Rattle.std.proofs.Common.{◌≡◌, ℕ, zero, suc, ◌+◌, ◌-◌, ◌*�
 use lib.ListN.{length-map}
 use Rattle.std.specs.Bool.{then_some}
 use Rattle.std.specs.List.{flat_map, AllByRecursion}
-use Rattle.std.proofs.lemmas.List.{flat_map_more, map_more, take-append-drop}
+use Rattle.std.proofs.lemmas.List.{flat_map_more, map_more}
 use Rattle.std.proofs.lemmas.Option.{cond_some, none-some}
 use Rattle.std.proofs.lemmas.Bool.{cases_lt, leb-true, le-leb, lt-leb, cond-true, cond-false}
 use borrow.Rule.Slice.PartMut.{put_mid}
@@ -76,11 +76,6 @@ place_none at size buffer e = elim (cases_lt (length buffer) (at + size)) [
   | inl l ↦ l
   | inr l ↦ absurd (none-some (at + size) (e ∙ cond-true _ (Some (at + size)) None (le-leb (at + size) (length buffer) l)))
 ]
-
-pub put_at_none : (at : ℕ) (buffer : List ℕ) → at ≤ length buffer → buffer ≡ put_at at [] buffer
-put_at_none at buffer h =
-    sym (put_at_long at [] buffer (omega arith)
-    ∙ (ap (λ n. take at buffer ++ drop n buffer) (let e : at + 0 ≡ at = omega arith in e) ∙ take-append-drop at buffer))
 
 pub length_put_at : (at : ℕ) (bs buffer : List ℕ) → at + length bs ≤ length buffer → length (put_at at bs buffer) ≡ length buffer
 length_put_at at bs buffer h =

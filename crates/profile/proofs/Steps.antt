@@ -135,18 +135,14 @@ left_all on next n same = let e : n ≡ n - 0 = omega arith in ap on e ∙ sym (
 
 -- ---- from the header of a profile to its rows
 
-pub record Passed (f : Format) (bs : List ℕ) (h : Header) : Type 0 where
-  pub rows : List Row
-  pub read : read_rows f h.horizon None h.count (drop 9 bs) ≡ Ok rows
-  pub is : read_profile f bs ≡ Ok (record { horizon = h.horizon; rows = rows })
-
-pub passed_rows : (f : Format) (bs : List ℕ) (h : Header) (k : Passed f bs h) (rs : List Row) → rs ≡ k.rows → read_profile f bs ≡ Ok (record { horizon = h.horizon; rows = rs })
-passed_rows f bs h k rs e = k.is ∙ ap (λ qs. Ok (record { horizon = h.horizon; rows = qs })) (sym e)
-
--- of a profile that was read
-pub passed : (f : Format) (bs : List ℕ) (h : Header) → Ok h ≡ read_header f bs → (p : Profile) → read_profile f bs ≡ Ok p → Passed f bs h
-passed f bs h header p e = go (read_rows f h.horizon None h.count (drop 9 bs)) refl (sym (read_is f bs h header) ∙ e)
+pub passed : (f : Format) (bs : List ℕ) (h : Header) → Ok h ≡ read_header f bs → (p : Profile) → read_profile f bs ≡ Ok p → read_rows f h.horizon None h.count (drop 9 bs) ≡ Ok p.rows
+passed f bs h header p e = go (read_rows f h.horizon None h.count (drop 9 bs)) (sym (read_is f bs h header) ∙ e)
   where
-    go : (x : Result (List Row) Refusal) → read_rows f h.horizon None h.count (drop 9 bs) ≡ x → as_profile h.horizon x ≡ Ok p → Passed f bs h
-    go (Err g) q r = absurd (ok_not_err r)
-    go (Ok rs) q r = record { rows = rs; read = q; is = read_is f bs h header ∙ ap (as_profile h.horizon) q }
+    go : (x : Result (List Row) Refusal) → as_profile h.horizon x ≡ Ok p → x ≡ Ok p.rows
+    go (Err g) r = absurd (ok_not_err r)
+    go (Ok rs) r = let is : record { horizon = h.horizon; rows = rs } ≡ p = (cc) in ap (λ q. Ok q.rows) is
+
+-- the profile of a header
+pub headed : (x : Result Profile Refusal) (h : Header) → Ok h ≡ header_read x → (p : Profile) × (x ≡ Ok p)
+headed (Err g) h e = absurd (ok_not_err (sym e))
+headed (Ok p) h e = (p, refl)
