@@ -4,9 +4,9 @@ use Rattle.std.proofs.lemmas.List.{drop_at, drop-drop, drop_all, append-nil, app
 use Rattle.std.proofs.lemmas.Bool.{cases_lt, le-leb, lt-leb, cond-true, cond-false}
 use Rattle.loads.specs.declared.kind.LoadFault.{LoadFault}
 use Rattle.loads.specs.declared.kind.LoadFault.TheVariants.{Short, NoImage}
-use Rattle.loads.specs.Digits.{digits, to_bytes, from_bytes}
+use Rattle.loads.specs.Digits.{digits, from_bytes}
 use Rattle.loads.specs.Formats.{Format, digits_format, pair_format, both, put_front, or_no_image, read_front}
-use Rattle.loads.specs.Places.{length_to_bytes, word_4, word_8}
+use Rattle.loads.specs.Places.{word_4, word_8}
 use Rattle.std.specs.Int.{from_be_bytes}
 
 -- ---- put
@@ -22,13 +22,6 @@ length_put xs buffer front e = elim (cases_lt (length buffer) (length xs)) [
   | inl h ↦ ap length (e ∙ sym (put_short xs buffer h))
   | inr h ↦ ap length (e ∙ put_long xs buffer (length xs) refl h) ∙ length-append xs (drop (length xs) buffer) ∙ (rw length-drop (omega arith))
 ]
-
--- the bytes of a word, copied to the front
-pub put_word : (n w : ℕ) (bytes buffer : List ℕ) → bytes ≡ to_bytes n w → n ≤ length buffer → bytes ++ drop n buffer ≡ put_front (to_bytes n w) buffer
-put_word n w bytes buffer e h = ap (λ bs. bs ++ drop n buffer) e ∙ sym (put_long (to_bytes n w) buffer n (length_to_bytes n w) h)
-
-pub put_word_short : (n w : ℕ) (buffer : List ℕ) → length buffer < n → buffer ≡ put_front (to_bytes n w) buffer
-put_word_short n w buffer h = put_short (to_bytes n w) buffer (omega (arith, length_to_bytes n w))
 
 -- an image of all of one part, and one at the front of the next, as both at the front of the whole
 pub put_parts : (xs ys front back : List ℕ) → length xs ≡ length front → length ys ≤ length back → put_front xs front ++ put_front ys back ≡ put_front (xs ++ ys) (front ++ back)

@@ -93,7 +93,8 @@ impl Kind for Airtime {
     }
 
     fn cover(a: Self::Load, b: Self::Load) -> Self::Load {
-        if a.rate < b.rate { b } else { a }
+        let rate = a.rate.max(b.rate);
+        AirtimeLoad { rate }
     }
 
     fn fits(load: Self::Load, demand: Self::Load, capacity: Self::Load) -> bool {
