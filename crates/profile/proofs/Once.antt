@@ -1,5 +1,6 @@
 -- Rows without fault are told by the load at every minute.
 use Rattle.std.proofs.Common.{◌≡◌, ℕ, zero, suc, ◌<◌, ◌≤◌, Bool, true, false, cond, ◌||◌, eqb, ltb, leb, List, [], ◌∷◌, length, replicate, Some, None, Option, sym, refl, ap, ◌∙◌, subst, ap₂, inl, inr, arith}
+use Rattle.std.proofs.lemmas.Option.{none-some}
 use Rattle.std.proofs.lemmas.Bool.{cases_Bool, cases_order, cases_lt, both_ways, or_parts, and_from, and_left, and_right, le-leb, lt-leb, lt-ltb, le-ltb, eq-eqb, eqb-false, ltb-false, cond-true, cond-false}
 use Rattle.terms.specs.declared.refusal.Refusal.{Refusal}
 use Rattle.terms.specs.declared.refusal.Refusal.TheVariants.{ProfileHorizon, RowPlace, RowLoad}
@@ -19,11 +20,8 @@ pub record Good (h : ℕ) (before : Option Row) (r : Row) : Type 0 where
   pub not_empty : empty r.load ≡ false
   pub other : goes_on before r ≡ false
 
-pub none_not_some : {e : Refusal} → ◌≡◌ {A = Option Refusal} (Some e) None → ⊥
-none_not_some e = let z : ◌≡◌ {A = ℕ} 0 1 = cc in omega arith
-
 free : (b : Bool) (e : Refusal) (o : Option Refusal) → cond b (Some e) o ≡ None → (b ≡ false) × (o ≡ None)
-free true e o h = absurd (none_not_some h)
+free true e o h = absurd (none-some e (sym h))
 free false e o h = (refl, h)
 
 good : (h : ℕ) (before : Option Row) (r : Row) → row_fault h before r ≡ None → Good h before r
@@ -47,7 +45,14 @@ cut h before r rs e = parts (row_fault h before r) refl e
   where
     parts : (o : Option Refusal) → row_fault h before r ≡ o → or_fault o (rows_fault h (Some r) rs) ≡ None → Good h before r × (rows_fault h (Some r) rs ≡ None)
     parts None p q = (good h before r p, q)
-    parts (Some x) p q = absurd (none_not_some q)
+    parts (Some x) p q = absurd (none-some x (sym q))
+
+-- a profile without fault
+pub fault_free : (p : Profile) → profile_fault p ≡ None → (lawful_horizon p.horizon ≡ true) × (rows_fault p.horizon None p.rows ≡ None)
+fault_free p e = elim (cases_Bool (lawful_horizon p.horizon)) [
+  | inl k ↦ (k, sym (cond-true _ _ _ k) ∙ e)
+  | inr k ↦ absurd (none-some ProfileHorizon (sym e ∙ cond-false _ (rows_fault p.horizon None p.rows) (Some ProfileHorizon) k))
+]
 
 abbrev row : ℕ → ℕ → List ℕ → Row
 row offset minutes load = record { offset = offset; minutes = minutes; load = load }
@@ -176,18 +181,12 @@ module _ (f : Format) where
       (same_rows h (Some r) rs qs c.1 after
       (λ m a b. sym (past_row r rs m a) ∙ (same m (omega arith) b ∙ past_row q qs m (omega arith))))
 
-  pub rows_free : (p : Profile) → profile_fault p ≡ None → rows_fault p.horizon None p.rows ≡ None
-  rows_free p e = elim (cases_Bool (lawful_horizon p.horizon)) [
-    | inl k ↦ sym (cond-true _ _ _ k) ∙ e
-    | inr k ↦ absurd (none_not_some (sym (cond-false _ (rows_fault p.horizon None p.rows) (Some ProfileHorizon) k) ∙ e))
-  ]
-
   pub one_writing : Lawful f → OneWriting f
   one_writing lawful bs cs p q b c x y h same =
       let a = accepts_writings f lawful bs p b x in
       let d = accepts_writings f lawful cs q c y in
       let rows : p.rows ≡ q.rows
-      = same_rows p.horizon None p.rows q.rows (rows_free p a.faultless)
-      (subst (λ k. rows_fault k None q.rows ≡ None) (sym h) (rows_free q d.faultless)) (λ m _ l. same m l) in
+      = same_rows p.horizon None p.rows q.rows (fault_free p a.faultless).1
+      (subst (λ k. rows_fault k None q.rows ≡ None) (sym h) (fault_free q d.faultless).1) (λ m _ l. same m l) in
       let is : p ≡ q = ap (λ k. profile k p.rows) h ∙ ap (profile q.horizon) rows in
       a.written ∙ (ap (profile_bytes f) is ∙ sym d.written)

@@ -1,4 +1,4 @@
--- What the code asks of a row's load.
+-- Rows as the code reads them and tests their loads.
 use Rattle.std.proofs.Common.{◌≡◌, Bool, true, false, ◌||◌, List, ℕ, length, Ok, Err, Option, Result, sym, ap, ◌∙◌}
 use Rattle.std.specs.Result.{MatchResult}
 use Rattle.terms.specs.declared.refusal.Refusal.{Refusal}

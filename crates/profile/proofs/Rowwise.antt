@@ -3,8 +3,9 @@ use Rattle.std.proofs.Common.{◌≡◌, ℕ, zero, suc, ◌+◌, ◌-◌, ◌*�
 use lib.ListN.{length-map}
 use Rattle.std.specs.Bool.{then_some}
 use Rattle.std.specs.List.{flat_map, AllByRecursion}
-use Rattle.std.proofs.lemmas.List.{flat_map_more, map_more, take-append-drop}
-use Rattle.std.proofs.lemmas.Bool.{cases_lt, le-leb, lt-leb, cond-true, cond-false}
+use Rattle.std.proofs.lemmas.List.{flat_map_more, map_more}
+use Rattle.std.proofs.lemmas.Option.{cond_some, none-some}
+use Rattle.std.proofs.lemmas.Bool.{cases_lt, leb-true, le-leb, lt-leb, cond-true, cond-false}
 use borrow.Rule.Slice.PartMut.{put_mid}
 use Rattle.loads.specs.Digits.{to_bytes}
 use Rattle.loads.specs.Formats.{Format, Counted, Lawful, told, put_front}
@@ -66,21 +67,15 @@ end_told size n at row len end buffer o h r l e t = t ∙ end_is size n at end b
 -- ---- places
 
 pub place_some : (n at size : ℕ) (buffer : List ℕ) → Some n ≡ place_after at size buffer → (n ≡ at + size) × (at + size ≤ length buffer)
-place_some n at size buffer e = elim (cases_lt (length buffer) (at + size)) [
-  | inl l ↦ let q = cond-false _ (Some (at + size)) None (lt-leb (at + size) (length buffer) l) in let z : ◌≡◌ {A = ℕ} 0 1 = cc in absurd (omega arith)
-  | inr l ↦ let q = cond-true _ (Some (at + size)) None (le-leb (at + size) (length buffer) l) in (cc, l)
-]
+place_some n at size buffer e =
+    let p = cond_some (leb (at + size) (length buffer)) (at + size) n (sym e) in
+    (sym p.1, leb-true (at + size) (length buffer) p.0)
 
 pub place_none : (at size : ℕ) (buffer : List ℕ) → None ≡ place_after at size buffer → length buffer < at + size
 place_none at size buffer e = elim (cases_lt (length buffer) (at + size)) [
   | inl l ↦ l
-  | inr l ↦ let q = cond-true _ (Some (at + size)) None (le-leb (at + size) (length buffer) l) in let z : ◌≡◌ {A = ℕ} 0 1 = cc in absurd (omega arith)
+  | inr l ↦ absurd (none-some (at + size) (e ∙ cond-true _ (Some (at + size)) None (le-leb (at + size) (length buffer) l)))
 ]
-
-pub put_at_none : (at : ℕ) (buffer : List ℕ) → at ≤ length buffer → buffer ≡ put_at at [] buffer
-put_at_none at buffer h =
-    sym (put_at_long at [] buffer (omega arith)
-    ∙ (ap (λ n. take at buffer ++ drop n buffer) (let e : at + 0 ≡ at = omega arith in e) ∙ take-append-drop at buffer))
 
 pub length_put_at : (at : ℕ) (bs buffer : List ℕ) → at + length bs ≤ length buffer → length (put_at at bs buffer) ≡ length buffer
 length_put_at at bs buffer h =

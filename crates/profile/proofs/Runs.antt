@@ -9,7 +9,7 @@ use Rattle.loads.specs.Same.{alike_is}
 use Rattle.profile.specs.Rows.{Row, end_of, load_at, end_before, goes_on, rows_fault}
 use Rattle.profile.specs.Laws.{Run, InTurn, RowsAreRuns}
 use Rattle.profile.proofs.Accepts.{accepts_writings}
-use Rattle.profile.proofs.Once.{cut, at_row, past_row, early, no_load, next_differs, rows_free}
+use Rattle.profile.proofs.Once.{cut, at_row, past_row, early, no_load, next_differs, fault_free}
 
 all_later : (h : ℕ) (p : Row) (rs : List Row) → rows_fault h (Some p) rs ≡ None → AllByRecursion (λ s. end_of p ≤ s.offset) rs
 all_later h p [] e = tt
@@ -69,7 +69,7 @@ module _ (f : Format) (h : ℕ) (load : ℕ → List ℕ) where
 
 pub rows_are_runs : (f : Format) → Lawful f → RowsAreRuns f
 rows_are_runs f lawful bs p b e =
-    let free = rows_free f p (accepts_writings f lawful bs p b e).faultless in
+    let free = (fault_free p (accepts_writings f lawful bs p b e).faultless).1 in
     record {
       runs = all_runs f p.horizon (load_at f p.rows) None p.rows free (λ m _. refl) tt;
       in_turn = in_turn p.horizon None p.rows free;

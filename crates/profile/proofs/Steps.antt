@@ -1,7 +1,7 @@
 -- The rows of a profile read one by one.
-use Rattle.std.proofs.Common.{◌≡◌, ℕ, zero, suc, ◌+◌, ◌-◌, ◌<◌, ◌≤◌, List, [], ◌∷◌, ◌++◌, length, drop, Some, None, Ok, Err, Option, Result, sym, refl, ap, ◌∙◌, add-one, arith}
+use Rattle.std.proofs.Common.{◌≡◌, ℕ, zero, suc, ◌+◌, ◌-◌, ◌<◌, ◌≤◌, List, [], ◌∷◌, ◌++◌, map, length, drop, Some, None, Ok, Err, Option, Result, sym, refl, ap, ◌∙◌, add-one, arith}
 use Rattle.std.specs.Result.{result_err}
-use Rattle.std.proofs.lemmas.List.{append_assoc, append-nil}
+use Rattle.std.proofs.lemmas.List.{append_assoc, append-nil, map_push}
 use Rattle.terms.specs.declared.refusal.Refusal.{Refusal}
 use Rattle.loads.specs.Formats.{Format}
 use Rattle.profile.specs.Rows.{Row, Profile, row_fault, unless}
@@ -84,11 +84,14 @@ abbrev pub after : List Row → Result (List Row) Refusal → Result (List Row) 
 after rs (Ok qs) = Ok (rs ++ qs)
 after rs (Err e) = Err e
 
-pub after_none : (x : Result (List Row) Refusal) → x ≡ after [] x
+after_none : (x : Result (List Row) Refusal) → x ≡ after [] x
 after_none (Ok qs) = refl
 after_none (Err e) = refl
 
-pub after_push : (rs : List Row) (r : Row) (x : Result (List Row) Refusal) → after rs (prepend r x) ≡ after (rs ++ r ∷ []) x
+pub after_start : (x left : Result (List Row) Refusal) (rs : List Row) → rs ≡ [] → x ≡ left → x ≡ after rs left
+after_start x left rs e q = q ∙ (after_none left ∙ ap (λ ps. after ps left) (sym e))
+
+after_push : (rs : List Row) (r : Row) (x : Result (List Row) Refusal) → after rs (prepend r x) ≡ after (rs ++ r ∷ []) x
 after_push rs r (Ok qs) = ap Ok (sym (append_assoc rs (r ∷ []) qs))
 after_push rs r (Err e) = refl
 
@@ -113,12 +116,16 @@ module _ (on next : ℕ → Result (List Row) Refusal) (n i : ℕ) (some : i < n
   left_more : (r : Row) → ((k : ℕ) → on (k + 1) ≡ prepend r (next k)) → on (n - i) ≡ prepend r (next (n - (i + 1)))
   left_more r more = ap on left_is ∙ more (n - (i + 1))
 
-  pub err_more : (r : Row) → ((k : ℕ) → on (k + 1) ≡ prepend r (next k)) → result_err (on (n - i)) ≡ result_err (next (n - (i + 1)))
-  err_more r more = ap result_err (left_more r more) ∙ err_prepend r (next (n - (i + 1)))
+  -- of all rows, before and after this one
+  pub err_more : (all : Result (List Row) Refusal) (r : Row) → result_err all ≡ result_err (on (n - i)) → ((k : ℕ) → on (k + 1) ≡ prepend r (next k)) → result_err all ≡ result_err (next (n - (i + 1)))
+  err_more all r before more = before ∙ (ap result_err (left_more r more) ∙ err_prepend r (next (n - (i + 1))))
 
-  pub after_more : (rs qs : List Row) (r : Row) → qs ≡ rs ++ r ∷ [] → ((k : ℕ) → on (k + 1) ≡ prepend r (next k)) → after rs (on (n - i)) ≡ after qs (next (n - (i + 1)))
-  after_more rs qs r e more =
-      ap (after rs) (left_more r more) ∙ (after_push rs r (next (n - (i + 1))) ∙ ap (λ ps. after ps (next (n - (i + 1)))) (sym e))
+  pub after_more : {X : Type 0} (all : Result (List Row) Refusal) (view : X → Row) (xs ys : List X) (x : X) → ys ≡ xs ++ x ∷ [] → all ≡ after (map view xs) (on (n - i))
+      → ((k : ℕ) → on (k + 1) ≡ prepend (view x) (next k)) → all ≡ after (map view ys) (next (n - (i + 1)))
+  after_more all view xs ys x e before more =
+      before
+      ∙ (ap (after (map view xs)) (left_more (view x) more)
+      ∙ (after_push (map view xs) (view x) (next (n - (i + 1))) ∙ ap (λ rs. after rs (next (n - (i + 1)))) (sym (ap (map view) e ∙ map_push view xs x))))
 
 pub left_none : (on : ℕ → Result (List Row) Refusal) (n i : ℕ) → n ≤ i → (x : Result (List Row) Refusal) → x ≡ on 0 → on (n - i) ≡ x
 left_none on n i h x q = let e : n - i ≡ 0 = omega arith in ap on e ∙ sym q
@@ -128,15 +135,14 @@ left_all on next n same = let e : n ≡ n - 0 = omega arith in ap on e ∙ sym (
 
 -- ---- from the header of a profile to its rows
 
-pub record Passed (f : Format) (bs : List ℕ) (h : Header) : Type 0 where
-  pub rows : List Row
-  pub read : read_rows f h.horizon None h.count (drop 9 bs) ≡ Ok rows
-  pub is : read_profile f bs ≡ Ok (record { horizon = h.horizon; rows = rows })
-
--- of a profile that was read
-pub passed : (f : Format) (bs : List ℕ) (h : Header) → Ok h ≡ read_header f bs → (p : Profile) → read_profile f bs ≡ Ok p → Passed f bs h
-passed f bs h header p e = go (read_rows f h.horizon None h.count (drop 9 bs)) refl (sym (read_is f bs h header) ∙ e)
+pub passed : (f : Format) (bs : List ℕ) (h : Header) → Ok h ≡ read_header f bs → (p : Profile) → read_profile f bs ≡ Ok p → read_rows f h.horizon None h.count (drop 9 bs) ≡ Ok p.rows
+passed f bs h header p e = go (read_rows f h.horizon None h.count (drop 9 bs)) (sym (read_is f bs h header) ∙ e)
   where
-    go : (x : Result (List Row) Refusal) → read_rows f h.horizon None h.count (drop 9 bs) ≡ x → as_profile h.horizon x ≡ Ok p → Passed f bs h
-    go (Err g) q r = absurd (ok_not_err r)
-    go (Ok rs) q r = record { rows = rs; read = q; is = read_is f bs h header ∙ ap (as_profile h.horizon) q }
+    go : (x : Result (List Row) Refusal) → as_profile h.horizon x ≡ Ok p → x ≡ Ok p.rows
+    go (Err g) r = absurd (ok_not_err r)
+    go (Ok rs) r = let is : record { horizon = h.horizon; rows = rs } ≡ p = (cc) in ap (λ q. Ok q.rows) is
+
+-- the profile of a header
+pub headed : (x : Result Profile Refusal) (h : Header) → Ok h ≡ header_read x → (p : Profile) × (x ≡ Ok p)
+headed (Err g) h e = absurd (ok_not_err (sym e))
+headed (Ok p) h e = (p, refl)

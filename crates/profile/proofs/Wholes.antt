@@ -1,31 +1,28 @@
 -- A whole profile written: its answer, its bytes, and that they read back.
-use Rattle.std.proofs.Common.{◌≡◌, ℕ, ◌≤◌, true, ltb, leb, List, [], ◌∷◌, ◌++◌, length, take, drop, Some, None, Ok, Option, Result, sym, refl, ap, ◌∙◌, inl, inr, arith}
+use Rattle.std.proofs.Common.{◌≡◌, ℕ, ◌≤◌, ltb, leb, List, [], ◌∷◌, ◌++◌, length, take, drop, Some, None, Ok, Option, Result, sym, refl, ap, ◌∙◌, arith}
 use Rattle.std.specs.Option.{ok_or}
 use Rattle.std.specs.Result.{IfOk}
 use Rattle.std.specs.List.{flat_map, AllByRecursion}
 use Rattle.std.proofs.lemmas.List.{take_at}
-use Rattle.std.proofs.lemmas.Bool.{cases_Bool, and_parts, leb-true, cond-false}
+use Rattle.std.proofs.lemmas.Bool.{and_parts, leb-true}
 use Rattle.terms.specs.declared.refusal.Refusal.{Refusal}
-use Rattle.terms.specs.declared.refusal.Refusal.TheVariants.{ProfileHorizon}
 use Rattle.loads.specs.Formats.{Format, Counted, Lawful, put_front}
 use Rattle.loads.proofs.Fronts.{put_long, put_short}
-use Rattle.profile.specs.Rows.{Row, Profile, rows_fault, lawful_horizon, profile_fault, unless}
+use Rattle.profile.specs.Rows.{Row, Profile, rows_fault, profile_fault, unless}
 use Rattle.profile.specs.Wire.{row_bytes, header_bytes, profile_bytes, profile_size, written, place_after, read_profile}
 use Rattle.profile.specs.Laws.{Writable, FitsBytes}
-use Rattle.profile.proofs.Once.{cut, none_not_some, rows_free}
+use Rattle.profile.proofs.Accepts.{unless_ok}
+use Rattle.profile.proofs.Once.{cut, fault_free}
 use Rattle.profile.proofs.Rowwise.{rows_few, place_some, place_none}
 use Rattle.profile.proofs.Written.{length_profile, reads_back}
 
 -- ---- what bytes can hold
 
-lawful_free : (p : Profile) → profile_fault p ≡ None → lawful_horizon p.horizon ≡ true
-lawful_free p e = elim (cases_Bool (lawful_horizon p.horizon)) [
-  | inl k ↦ k
-  | inr k ↦ absurd (none_not_some (sym (cond-false _ (rows_fault p.horizon None p.rows) (Some ProfileHorizon) k) ∙ e))
-]
+pub faultless : {X : Type 0} (p : Profile) (x y : X) → Ok y ≡ unless (profile_fault p) x → profile_fault p ≡ None
+faultless p x y e = (unless_ok (profile_fault p) x y (sym e)).0
 
 horizon_short : (p : Profile) → profile_fault p ≡ None → p.horizon ≤ 1000000000
-horizon_short p e = leb-true p.horizon 1000000000 (and_parts (ltb 0 p.horizon) (leb p.horizon 1000000000) (lawful_free p e)).1
+horizon_short p e = leb-true p.horizon 1000000000 (and_parts (ltb 0 p.horizon) (leb p.horizon 1000000000) (fault_free p e).0).1
 
 all_writable : (f : Format) (h : ℕ) (before : Option Row) (rs : List Row) → h ≤ 1000000000 → rows_fault h before rs ≡ None → AllByRecursion (λ r. Counted f r.load) rs → AllByRecursion (Writable f) rs
 all_writable f h before [] l e c = tt
@@ -37,7 +34,7 @@ all_writable f h before (r ∷ rs) l e c =
 pub fits_bytes : (f : Format) (p : Profile) → profile_fault p ≡ None → AllByRecursion (λ r. Counted f r.load) p.rows → FitsBytes f p
 fits_bytes f p e c =
     let h = horizon_short p e in
-    let free = rows_free f p e in
+    let free = (fault_free p e).1 in
     record {
       horizon = omega arith;
       count = omega (arith, rows_few p.horizon None p.rows free (omega arith));

@@ -14,8 +14,8 @@ const LONGEST: u32 = 1_000_000_000;
 /// The horizon, and the row before the next one, if there is one.
 #[derive(Drop)]
 pub(crate) struct Limits<K: Kind> {
-    pub(crate) horizon: u32,
-    pub(crate) before: Option<Row<K::Load>>,
+    horizon: u32,
+    before: Option<Row<K::Load>>,
 }
 
 impl<K: Kind> Limits<K> {

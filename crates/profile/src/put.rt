@@ -50,7 +50,7 @@ pub fn put_header<K: Kind>(header: Header, buffer: &mut [u8]) -> Option<usize>
 }
 
 /// Writes the row at a place of the buffer and tells the place after it; nothing where it does not fit there.
-// The place stands beside the buffer, and no writer holds both: a row goes to any place of any buffer.
+// The place stands beside the buffer: a writer that held both would owe, at each call, that it writes to the same one.
 pub fn put_row<K: Kind>(row: Row<K::Load>, at: usize, buffer: &mut [u8]) -> Option<usize>
     ensures place { result ≡ place_after at (row_size K.Kind.format) buffer.old }
     ensures after { buffer.new ≡ put_at at (row_bytes K.Kind.format (row_of K.Kind.counts row)) buffer.old }

@@ -32,6 +32,7 @@ fn split_load<K: Kind>(bytes: &[u8]) -> Result<(K::Load, &[u8]), LoadFault>
     Ok((load, &bytes[K::image_len() as usize..]))
 }
 
+// A function and no `From`, since both types are of other crates.
 fn load_refusal(fault: LoadFault) -> Refusal
     ensures { result ≡ refusal_of fault }
 {
