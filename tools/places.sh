@@ -3,7 +3,7 @@
 # With -l each line is printed too. Comments are passed over.
 [ "$1" = -l ] && list=1
 show() {
-    out=$(find crates -path '*/src/*' -name '*.rt' | sort | xargs grep -nE -e "$2" | grep -vE '^[^:]*:[0-9]*: *//')
+    out=$(find crates -path '*/src/*' -name '*.rt' -not -path '*/out/*' | sort | xargs grep -nE -e "$2" | grep -vE '^[^:]*:[0-9]*: *//')
     printf '%-62s %s\n' "$1" "$(printf '%s' "$out" | grep -c .)"
     [ -z "$list" ] || printf '%s\n' "$out" | sed 's/^/        /'
 }
