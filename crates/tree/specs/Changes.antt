@@ -5,11 +5,11 @@ use Rattle.tree.specs.declared.node.Node.{Node}
 use Rattle.tree.specs.Joins.{Frame}
 use Rattle.tree.specs.Lists.{edited, first_of}
 use Rattle.tree.specs.Orders.{Order, at_key}
-use Rattle.tree.specs.Shape.{Shape, none, tall, row, ents, by_entry, In, Distinct, Balanced, Stands}
+use Rattle.tree.specs.Shape.{Shape, tall, row, ents, by_entry, In, Distinct, Balanced, Stands}
 use Rattle.tree.specs.Sound.{Sound}
 
 -- the AVL tree u has come of t, and is at most one lower or higher: the table was xs and is ys
-pub record Changed {E Z : Type 0} (M : Z → List E → Type 0) (xs : List (Node E Z)) (t : Shape E) (ys : List (Node E Z)) (root : ℕ) (u : Shape E) : Type 0 where
+pub record Changed {E Z : Type 0} (M : Z → List E → Type 0) (xs : List (Node E Z)) (t : Shape E) (ys : List (Node E Z)) (root : Option ℕ) (u : Shape E) : Type 0 where
   pub stands : Stands M ys root u
   pub avl : Balanced tall u
   pub frame : Frame xs (row u) ys
@@ -37,8 +37,7 @@ abbrev pub reseated : {E K : Type 0} → Order E K → Option ℕ → E → List
 reseated O to e ps = edited (at_key (by_entry O) (O.key e)) (λ p. (unwrap_or to p.0, e) ∷ []) ps
 
 -- two AVL trees side by side
-pub record Pair {E Z : Type 0} (M : Z → List E → Type 0) (xs : List (Node E Z)) (left right : ℕ) (l r : Shape E) : Type 0 where
-  pub small : length xs ≤ none
+pub record Pair {E Z : Type 0} (M : Z → List E → Type 0) (xs : List (Node E Z)) (left right : Option ℕ) (l r : Shape E) : Type 0 where
   pub lefts : Stands M xs left l
   pub rights : Stands M xs right r
   pub once : Distinct (row l ++ row r)
@@ -46,11 +45,9 @@ pub record Pair {E Z : Type 0} (M : Z → List E → Type 0) (xs : List (Node E 
   pub avl_right : Balanced tall r
   pub close_left : tall l ≤ tall r + 1
   pub close_right : tall r ≤ tall l + 1
-  pub low_left : tall l < 254
-  pub low_right : tall r < 254
 
 -- u is the two as one
-pub record Glued {E Z : Type 0} (M : Z → List E → Type 0) (xs : List (Node E Z)) (l r : Shape E) (ys : List (Node E Z)) (root : ℕ) (u : Shape E) : Type 0 where
+pub record Glued {E Z : Type 0} (M : Z → List E → Type 0) (xs : List (Node E Z)) (l r : Shape E) (ys : List (Node E Z)) (root : Option ℕ) (u : Shape E) : Type 0 where
   pub stands : Stands M ys root u
   pub avl : Balanced tall u
   pub order : row u ≡ row l ++ row r
@@ -67,7 +64,7 @@ pub record Gap {E Z : Type 0} (xs : List (Node E Z)) (slot last : ℕ) (t : Shap
   pub there : slot < last → In last (row t)
 
 -- the same entries, in slots below `last`
-pub record Filled {E K Z : Type 0} (M : Z → List E → Type 0) (O : Order E K) (xs : List (Node E Z)) (last : ℕ) (t : Shape E) (ys : List (Node E Z)) (root : ℕ) (u : Shape E) : Type 0 where
+pub record Filled {E K Z : Type 0} (M : Z → List E → Type 0) (O : Order E K) (xs : List (Node E Z)) (last : ℕ) (t : Shape E) (ys : List (Node E Z)) (root : Option ℕ) (u : Shape E) : Type 0 where
   pub sound : Sound M O ys root u
   pub long : length ys ≡ length xs
   pub same : ents (row u) ≡ ents (row t)

@@ -1,5 +1,6 @@
 -- The two sides of a node. Assumes nothing.
 use Rattle.std.specs.Prelude.{ℕ, cond, List, ◌∷◌, ◌++◌, Some, None, Option}
+use Rattle.tree.specs.declared.fork.Fork.{Fork}
 use Rattle.tree.specs.declared.node.Node.{Node}
 use Rattle.tree.specs.declared.side.Side.{Side}
 use Rattle.tree.specs.declared.side.Side.TheVariants.{Left, Right}
@@ -14,13 +15,19 @@ abbrev pub pick : {A : Type 0} → Side → A → A → A
 pick Left near far = near
 pick Right near far = far
 
--- the link to the subtree on a side
-abbrev pub near_of : {E Z : Type 0} → Side → Node E Z → ℕ
-near_of side n = pick side n.left n.right
+-- the node at a slot, seen from a side
+abbrev pub fork_of : {E Z : Type 0} → ℕ → Side → Node E Z → Fork E
+fork_of at side n = record { at = at; entry = n.entry; side = side; near = pick side n.left n.right; far = pick side n.right n.left }
 
--- the link to the subtree on the other side
-abbrev pub far_of : {E Z : Type 0} → Side → Node E Z → ℕ
-far_of side n = pick side n.right n.left
+abbrev pub left_of : {E : Type 0} → Fork E → Option ℕ
+left_of f = pick f.side f.near f.far
+
+abbrev pub right_of : {E : Type 0} → Fork E → Option ℕ
+right_of f = pick f.side f.far f.near
+
+-- the same, seen from the other side
+abbrev pub mirrored : {E : Type 0} → Fork E → Fork E
+mirrored f = record f { side = opposite f.side; near = f.far; far = f.near }
 
 -- p between the list on the side and that on the other
 abbrev pub between : {A : Type 0} → Side → List A → A → List A → List A

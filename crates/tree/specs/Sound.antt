@@ -1,19 +1,18 @@
 -- Sound trees, and their entries as read off the table. Assumes nothing.
-use Rattle.std.specs.Prelude.{◌≡◌, ℕ, zero, suc, ◌<◌, ◌≤◌, List, [], ◌∷◌, length}
+use Rattle.std.specs.Prelude.{◌≡◌, ℕ, zero, suc, ◌<◌, ◌≤◌, List, [], ◌∷◌, length, Some, None, Option}
 use Rattle.tree.specs.declared.node.Node.{Node}
 use Rattle.tree.specs.declared.tree.Tree.{Tree}
 use Rattle.tree.specs.Orders.{Order, Rising}
-use Rattle.tree.specs.Shape.{Shape, leaf, node, none, link, tall, row, ents, by_entry, In, Distinct, Balanced, Stands, stored_height}
+use Rattle.tree.specs.Shape.{Shape, leaf, node, link, tall, row, ents, by_entry, In, Distinct, Balanced, Stands, stored_height}
 
 -- an AVL tree t stands at `root`, each slot once
-pub record Fit {E Z : Type 0} (M : Z → List E → Type 0) (xs : List (Node E Z)) (root : ℕ) (t : Shape E) : Type 0 where
-  pub small : length xs ≤ none
+pub record Fit {E Z : Type 0} (M : Z → List E → Type 0) (xs : List (Node E Z)) (root : Option ℕ) (t : Shape E) : Type 0 where
   pub stands : Stands M xs root t
   pub avl : Balanced tall t
   pub once : Distinct (row t)
 
 -- and its keys rise
-pub record Sound {E K Z : Type 0} (M : Z → List E → Type 0) (O : Order E K) (xs : List (Node E Z)) (root : ℕ) (t : Shape E) : Type 0 where
+pub record Sound {E K Z : Type 0} (M : Z → List E → Type 0) (O : Order E K) (xs : List (Node E Z)) (root : Option ℕ) (t : Shape E) : Type 0 where
   pub fit : Fit M xs root t
   pub rising : Rising (by_entry O) (row t)
 
@@ -24,12 +23,13 @@ fetch (n ∷ xs) zero f = f n
 fetch (n ∷ xs) (suc k) f = fetch xs k f
 
 -- the tree at a link, followed so many levels down
-abbrev pub followed : {E Z : Type 0} → ℕ → List (Node E Z) → ℕ → Shape E
+abbrev pub followed : {E Z : Type 0} → ℕ → List (Node E Z) → Option ℕ → Shape E
 followed zero xs k = leaf
-followed (suc levels) xs k = fetch xs k (λ n. node (followed levels xs n.left) k n.entry (followed levels xs n.right))
+followed (suc levels) xs None = leaf
+followed (suc levels) xs (Some k) = fetch xs k (λ n. node (followed levels xs n.left) k n.entry (followed levels xs n.right))
 
 -- the tree at a link, followed as many levels down as the height that is stored there
-abbrev pub shape_at : {E Z : Type 0} → List (Node E Z) → ℕ → Shape E
+abbrev pub shape_at : {E Z : Type 0} → List (Node E Z) → Option ℕ → Shape E
 shape_at xs k = followed (stored_height xs k) xs k
 
 -- ---- of a tree's value

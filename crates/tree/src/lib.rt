@@ -5,6 +5,7 @@
 mod balance;
 mod change;
 pub mod entry;
+mod fork;
 pub mod node;
 mod nodes;
 mod search;

@@ -22,7 +22,7 @@ impl Side {
     }
 
     // Of what belongs on this side and on the other, that on the left.
-    pub(crate) fn leftmost(self, near: usize, far: usize) -> usize
+    pub(crate) fn leftmost(self, near: Option<usize>, far: Option<usize>) -> Option<usize>
         ensures { result ≡ pick self near far }
     {
         match self {

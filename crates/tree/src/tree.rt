@@ -3,14 +3,14 @@ ghost use Rattle.std.specs.Prelude.{◌≡◌, [], length};
 ghost use Rattle.tree.specs.Sound.{SoundTree, entries, places};
 
 use crate::entry::Entry;
-use crate::node::{NONE, Node};
+use crate::node::Node;
 use crate::nodes::Nodes;
 
 /// An AVL tree of entries in a lent table. The entries stand in its first `count` records, so no record is ever lost.
 #[derive(Drop)]
 pub struct Tree<'t, E, S> {
     nodes: Nodes<'t, E, S>,
-    root: usize,
+    root: Option<usize>,
     count: usize,
 }
 
@@ -21,12 +21,9 @@ impl<'t, E: Entry> Tree<'t, E, E::Summary> {
         ensures list { entries result ≡ [] }
         ensures places { places result ≡ length table.old }
     {
-        let nodes = Nodes { table };
-        // It fits a `usize`, so no slot is `NONE`.
-        let _slots = nodes.len();
         Tree {
-            nodes,
-            root: NONE,
+            nodes: Nodes { table },
+            root: None,
             count: 0,
         }
     }

@@ -1,24 +1,26 @@
-use Rattle.std.proofs.Common.{arith}
-use Rattle.tree.proofs.Trees.{stands_within}
+use Rattle.std.proofs.Common.{arith, refl}
+use Rattle.tree.specs.declared.side.Side.TheVariants.{Left}
+use Rattle.tree.proofs.Descends.{opens}
 use Rattle.tree.proofs.Shrinks.{pop_down, pop_ready, pop_back, pop_end}
 use Rattle.tree.proofs.change.Nodes+E+E+Summary.+pop_first.Goals as goal
 
-pub node-n-requires : goal.node-n-requires
-node-n-requires g t c = stands_within g.E.Entry.sums _ _ c.requires.0 c.requires.2 c.requires.1.stands
-
 pub pop_first-first-requires : goal.pop_first-first-requires
 pop_first-first-requires g t c κs within =
-    let d = pop_down g.E.Entry.sums c.args.self.now.table.now c.args.root c.requires.0 c.requires.1 c.node-n.result (stands_within g.E.Entry.sums _ _ c.requires.0 c.requires.2 c.requires.1.stands) c.node-n.ensures c.if-n-self.true in
+    let o = opens g.E.Entry.sums c.args.self.now.table.now _ c.requires.0 c.requires.1 c.args.root refl c.node-n.result c.node-n.ensures Left _ refl in
+    let d = pop_down g.E.Entry.sums c.args.self.now.table.now _ c.requires.0 c.requires.1 c.args.root c.node-n.result o c.in-Some.left c.in-Some.is in
     (omega (arith, c.decreases, d.0), (within.0, (within.1.0, (within.1.1, d.1))))
 
 pub balance-top-requires : goal.balance-top-requires
 balance-top-requires g t c =
-    pop_ready g.E.Entry.sums c.args.self.now.table.now c.args.root c.requires.0 c.requires.1 c.node-n.result (stands_within g.E.Entry.sums _ _ c.requires.0 c.requires.2 c.requires.1.stands) c.node-n.ensures c.if-n-self.true _ _ _ _ c.pop_first-first.ensures
+    let o = opens g.E.Entry.sums c.args.self.now.table.now _ c.requires.0 c.requires.1 c.args.root refl c.node-n.result c.node-n.ensures Left _ refl in
+    pop_ready g.E.Entry.sums c.args.self.now.table.now _ c.requires.0 c.requires.1 c.args.root c.node-n.result o c.in-Some.left c.in-Some.is _ _ _ _ c.pop_first-first.ensures c.fork.result c.fork.ensures
 
-pub returns-then-n-self : goal.returns-then-n-self
-returns-then-n-self g t c x F h =
-    pop_back g.E.Entry.sums c.args.self.now.table.now c.args.root x F c.node-n.result (stands_within g.E.Entry.sums _ _ x h F.stands) c.node-n.ensures c.if-n-self.true _ _ _ _ c.pop_first-first.ensures _ _ c.balance-top.ensures
+pub returns-in-Some : goal.returns-in-Some
+returns-in-Some g t c x F =
+    let o = opens g.E.Entry.sums c.args.self.now.table.now _ x F c.args.root refl c.node-n.result c.node-n.ensures Left _ refl in
+    pop_back g.E.Entry.sums c.args.self.now.table.now _ x F c.args.root c.node-n.result o c.in-Some.left c.in-Some.is _ _ _ _ c.pop_first-first.ensures _ _ c.fork.result c.fork.ensures c.balance-top.ensures
 
-pub returns-else-n-self : goal.returns-else-n-self
-returns-else-n-self g t c x F h =
-    pop_end g.E.Entry.sums c.args.self.now.table.now c.args.root x F c.node-n.result (stands_within g.E.Entry.sums _ _ x h F.stands) c.node-n.ensures c.if-n-self.false
+pub returns-in-None : goal.returns-in-None
+returns-in-None g t c x F =
+    let o = opens g.E.Entry.sums c.args.self.now.table.now _ x F c.args.root refl c.node-n.result c.node-n.ensures Left _ refl in
+    pop_end g.E.Entry.sums c.args.self.now.table.now _ x F c.args.root c.node-n.result o c.in-None.is

@@ -1,32 +1,34 @@
 use Rattle.std.proofs.Common.{◌≡◌, ◌+◌, max, [], ◌∷◌, ap, ◌∙◌, arith}
 use Rattle.tree.specs.Shape.{row, ents, stored_height}
-use Rattle.tree.specs.Sides.{pick}
+use Rattle.tree.specs.Sides.{left_of, right_of}
+use Rattle.tree.proofs.Mirrors.{put_heights}
 use Rattle.tree.proofs.Trees.{node_sums}
 use Rattle.tree.proofs.nodes.Nodes+E+E+Summary.put.Goals as goal
 
-pub returns-then-at-self : goal.returns-then-at-self
-returns-then-at-self g c = record {
+pub returns-then-top-len : goal.returns-then-top-len
+returns-then-top-len g c = record {
   sum = c.join-summary.result;
+  small = omega (arith, c.len.ensures, c.len.type_inv);
   is = λ within hl hr.
       let xs = c.args.self.now.table.now in
-      let left = pick c.args.side c.args.near c.args.far in
-      let right = pick c.args.side c.args.far c.args.near in
-      let el : c.height.result ≡ stored_height xs left = c.height.ensures ∙ ap (stored_height xs) c.leftmost-left.ensures in
-      let er : c.height-2.result ≡ stored_height xs right = c.height-2.ensures ∙ ap (stored_height xs) c.leftmost-right.ensures in
-      let h : c.saturating_add-height.result ≡ max (stored_height xs left) (stored_height xs right) + 1 = omega arith in
-      cc (c.leftmost-left.ensures, c.leftmost-right.ensures, h);
-  sums = λ small l r sl sr.
-      node_sums g.E.Entry.sums c.args.at c.args.entry l r c.join-summary.result
-      (c.join-summary.ensures (ents (row l)) (c.args.entry ∷ ents (row r)) (c.summary-left_summary.ensures small l (c.leftmost-left.ensures ∙ sl.0, sl.1))
-      (c.join-rest.ensures (c.args.entry ∷ []) (ents (row r)) c.summary.ensures (c.summary-right_summary.ensures small r (c.leftmost-right.ensures ∙ sr.0, sr.1))));
+      let el : c.height.result ≡ stored_height xs (left_of c.args.top) = c.height.ensures ∙ ap (stored_height xs) c.left-left.ensures in
+      let er : c.height-2.result ≡ stored_height xs (right_of c.args.top) = c.height-2.ensures ∙ ap (stored_height xs) c.right-right.ensures in
+      let low = put_heights xs c.args.top hl hr in
+      let h : c.saturating_add-height.result ≡ max (stored_height xs (left_of c.args.top)) (stored_height xs (right_of c.args.top)) + 1 = omega arith in
+      cc (c.left-left.ensures, c.right-right.ensures, h);
+  sums = λ l r sl sr.
+      node_sums g.E.Entry.sums c.args.top.at c.args.top.entry l r c.join-summary.result
+      (c.join-summary.ensures (ents (row l)) (c.args.top.entry ∷ ents (row r)) (c.summary-3.ensures l (c.left-left.ensures ∙ sl.0, sl.1))
+      (c.join-rest.ensures (c.args.top.entry ∷ []) (ents (row r)) c.summary.ensures (c.summary-2.ensures r (c.right-right.ensures ∙ sr.0, sr.1))));
 }
 
-pub returns-else-at-self : goal.returns-else-at-self
-returns-else-at-self g c = record {
+pub returns-else-top-len : goal.returns-else-top-len
+returns-else-top-len g c = record {
   sum = c.join-summary.result;
+  small = omega (arith, c.len.ensures, c.len.type_inv);
   is = λ within hl hr. absurd (omega arith);
-  sums = λ small l r sl sr.
-      node_sums g.E.Entry.sums c.args.at c.args.entry l r c.join-summary.result
-      (c.join-summary.ensures (ents (row l)) (c.args.entry ∷ ents (row r)) (c.summary-left_summary.ensures small l (c.leftmost-left.ensures ∙ sl.0, sl.1))
-      (c.join-rest.ensures (c.args.entry ∷ []) (ents (row r)) c.summary.ensures (c.summary-right_summary.ensures small r (c.leftmost-right.ensures ∙ sr.0, sr.1))));
+  sums = λ l r sl sr.
+      node_sums g.E.Entry.sums c.args.top.at c.args.top.entry l r c.join-summary.result
+      (c.join-summary.ensures (ents (row l)) (c.args.top.entry ∷ ents (row r)) (c.summary-3.ensures l (c.left-left.ensures ∙ sl.0, sl.1))
+      (c.join-rest.ensures (c.args.top.entry ∷ []) (ents (row r)) c.summary.ensures (c.summary-2.ensures r (c.right-right.ensures ∙ sr.0, sr.1))));
 }

@@ -1,11 +1,11 @@
-use Rattle.std.proofs.Common.{sym, subst}
+use Rattle.std.proofs.Common.{sym, ◌∙◌, subst}
 use Rattle.tree.specs.Shape.{Shape, row, ents}
-use Rattle.tree.proofs.Trees.{opened, past_leaf}
+use Rattle.tree.proofs.Trees.{stored_sums, stored_none}
 use Rattle.tree.proofs.nodes.Nodes+E+E+Summary.summary.Goals as goal
 
-pub returns-then-at-self : goal.returns-then-at-self
-returns-then-at-self g c small t s = (opened g.E.Entry.sums c.args.self.now.table.now c.args.at c.node-n.result t small c.if-at-self.true c.node-n.ensures s).sums
+pub returns-in-Some : goal.returns-in-Some
+returns-in-Some g c t s = stored_sums g.E.Entry.sums c.args.self.now.table.now c.args.link c.in-Some.n t (sym c.in-Some.is ∙ c.linked.ensures) s
 
-pub returns-else-at-self : goal.returns-else-at-self
-returns-else-at-self g c small t s =
-    subst (λ (x : Shape g.row.E.Denot). g.E.Entry.sums c.nothing.result (ents (row x))) (sym (past_leaf g.E.Entry.sums c.args.self.now.table.now c.args.at t c.if-at-self.false s)) c.nothing.ensures
+pub returns-in-None : goal.returns-in-None
+returns-in-None g c t s =
+    subst (λ (x : Shape g.row.E.Denot). g.E.Entry.sums c.nothing.result (ents (row x))) (sym (stored_none g.E.Entry.sums c.args.self.now.table.now c.args.link t (sym c.in-None.is ∙ c.linked.ensures) s)) c.nothing.ensures
