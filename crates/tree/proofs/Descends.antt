@@ -1,5 +1,6 @@
 -- From a node to the subtree on a side, and back over a changed one.
 use Rattle.std.proofs.Common.{◌≡◌, ℕ, ◌+◌, ◌<◌, ◌≤◌, max, List, length, get_or, Some, Option, sym, ap, ◌∙◌, subst, arith}
+use Rattle.std.specs.Cmp.{IsTotalOrder}
 use Rattle.tree.specs.declared.fork.Fork.{Fork}
 use Rattle.tree.specs.declared.node.Node.{Node}
 use Rattle.tree.specs.declared.side.Side.{Side}
@@ -94,12 +95,12 @@ module _ {E Z : Type 0} (M : Z → List E → Type 0) (xs : List (Node E Z)) (ro
         }
 
 -- a key belongs on the side from which the node is seen
-pub fork_goes : {E K Z : Type 0} (O : Order E K) (k : K) (at : ℕ) (n : Node E Z) (side : Side) (f : Fork E) → f ≡ fork_of at side n → side_of O k (O.key n.entry) ≡ Some side → Goes O f.side k (O.key f.entry)
-fork_goes {E} O k at n side f fe goes = subst (λ (g : Fork E). Goes O g.side k (O.key g.entry)) (sym fe) (side_goes O k (O.key n.entry) side goes)
+pub fork_goes : {E K Z : Type 0} (O : Order E K) (L : IsTotalOrder O.cmp) (k : K) (at : ℕ) (n : Node E Z) (side : Side) (f : Fork E) → f ≡ fork_of at side n → side_of (O.cmp k (O.key n.entry)) ≡ Some side → Goes O f.side k (O.key f.entry)
+fork_goes {E} O L k at n side f fe goes = subst (λ (g : Fork E). Goes O g.side k (O.key g.entry)) (sym fe) (side_goes O L k (O.key n.entry) side goes)
 
-module _ {E K Z : Type 0} (M : Z → List E → Type 0) (O : Order E K) (xs : List (Node E Z)) (root : Option ℕ) (t : Shape E) (S : Sound M O xs root t) (f : Fork E) (o : Parted M xs f t) where
+module _ {E K Z : Type 0} (M : Z → List E → Type 0) (O : Order E K) (L : IsTotalOrder O.cmp) (xs : List (Node E Z)) (root : Option ℕ) (t : Shape E) (S : Sound M O xs root t) (f : Fork E) (o : Parted M xs f t) where
   pub rises : Rising (by_entry O) (between f.side (row o.a) (f.at, f.entry) (row o.b))
   rises = subst (Rising (by_entry O)) (opens_row M xs root t S.fit f o) S.rising
 
   pub sound_near : Sound M O xs f.near o.a
-  sound_near = record { fit = fit_near M xs root t S.fit f o; rising = rising_near (by_entry O) f.side (row o.a) (f.at, f.entry) (row o.b) rises }
+  sound_near = record { fit = fit_near M xs root t S.fit f o; rising = rising_near (by_entry O) L f.side (row o.a) (f.at, f.entry) (row o.b) rises }

@@ -1,5 +1,6 @@
 -- The steps of an insertion.
 use Rattle.std.proofs.Common.{◌≡◌, ℕ, ◌<◌, Bool, true, false, cond, ◌⊎◌, List, [], ◌∷◌, ◌++◌, Some, None, Option, sym, refl, ap, ◌∙◌, subst, inl, inr, arith}
+use Rattle.std.specs.Cmp.{IsTotalOrder}
 use Rattle.tree.specs.declared.fork.Fork.{Fork}
 use Rattle.tree.specs.declared.node.Node.{Node}
 use Rattle.tree.specs.declared.side.Side.TheVariants.{Left}
@@ -35,7 +36,7 @@ module _ {E K : Type 0} (O : Order E K) where
       distinct_cond (past O (O.key p.1) x.1) (p ∷ (x ∷ xs)) (x ∷ placed (by_entry O) p xs) (new, d)
       (λ h. elim (in_placed x.0 p xs h) [ inl q ↦ new (inl (sym q)) | inr q ↦ d.0 q ], distinct_placed p xs d.1 (λ h. new (inr h)))
 
-module _ {E K Z : Type 0} (M : Z → List E → Type 0) (O : Order E K) where
+module _ {E K Z : Type 0} (M : Z → List E → Type 0) (O : Order E K) (L : IsTotalOrder O.cmp) where
   -- what an insertion gives
   abbrev pub Grown : List (Node E Z) → ℕ → E → Shape E → List (Node E Z) → Option ℕ → Type 0
   Grown xs slot e t ys top = (u : Shape E) × Changed M xs t ys top u × (row u ≡ placed (by_entry O) (slot, e) (row t))
@@ -51,16 +52,16 @@ module _ {E K Z : Type 0} (M : Z → List E → Type 0) (O : Order E K) where
 
   module _ (xs : List (Node E Z)) (root : Option ℕ) (slot : ℕ) (e : E) (t : Shape E) (S : Sound M O xs root t) (F : Free O xs slot e t) where
     -- the key is not the root's
-    pub grown_same : (at : ℕ) (n : Node E Z) → Parted M xs (fork_of at Left n) t → side_of O (O.key e) (O.key n.entry) ≡ None → ⊥
+    pub grown_same : (at : ℕ) (n : Node E Z) → Parted M xs (fork_of at Left n) t → side_of (O.cmp (O.key e) (O.key n.entry)) ≡ None → ⊥
     grown_same at n o h =
         let f = fork_of at Left n in
-        let r : Rising (by_entry O) (row o.a ++ ((at, n.entry) ∷ row o.b)) = rises M O xs root t S f o in
+        let r : Rising (by_entry O) (row o.a ++ ((at, n.entry) ∷ row o.b)) = rises M O L xs root t S f o in
         let q = side_same O (O.key e) (O.key n.entry) h in
-        some_none (at, n.entry) (sym (first_here (at_key (by_entry O) (O.key e)) (row o.a) (at, n.entry) (row o.b) (no_left (by_entry O) (O.key e) (row o.a) (at, n.entry) (row o.b) r q) (same_at (by_entry O) (O.key e) (at, n.entry) q)) ∙ sym (ap (first_of (at_key (by_entry O) (O.key e))) (opens_row M xs root t S.fit f o)) ∙ F.absent)
+        some_none (at, n.entry) (sym (first_here (at_key (by_entry O) (O.key e)) (row o.a) (at, n.entry) (row o.b) (no_left (by_entry O) L (O.key e) (row o.a) (at, n.entry) (row o.b) r q) (same_at (by_entry O) (O.key e) (at, n.entry) q)) ∙ sym (ap (first_of (at_key (by_entry O) (O.key e))) (opens_row M xs root t S.fit f o)) ∙ F.absent)
 
     module _ (f : Fork E) (o : Parted M xs f t) (g : Goes O f.side (O.key e) (O.key f.entry)) where
       none_far : No (at_key (by_entry O) (O.key e)) (row o.b)
-      none_far = no_far (by_entry O) f.side (O.key e) (row o.a) (f.at, f.entry) (row o.b) (rises M O xs root t S f o) g
+      none_far = no_far (by_entry O) L f.side (O.key e) (row o.a) (f.at, f.entry) (row o.b) (rises M O L xs root t S f o) g
 
       near_free : Free O xs slot e o.a
       near_free =
@@ -69,22 +70,22 @@ module _ {E K Z : Type 0} (M : Z → List E → Type 0) (O : Order E K) where
           record {
             within = F.within;
             new = λ h. F.new (subst (In slot) (sym w) (in_near f.side slot (row o.a) (f.at, f.entry) (row o.b) h));
-            absent = sym (first_between P f.side (row o.a) (f.at, f.entry) (row o.b) (goes_not (by_entry O) f.side (O.key e) (f.at, f.entry) g) none_far) ∙ sym (ap (first_of P) w) ∙ F.absent;
+            absent = sym (first_between P f.side (row o.a) (f.at, f.entry) (row o.b) (goes_not (by_entry O) L f.side (O.key e) (f.at, f.entry) g) none_far) ∙ sym (ap (first_of P) w) ∙ F.absent;
           }
 
       -- what the call for the near side asks
       pub grow_down : (stored_height xs f.near < stored_height xs root) × ((a : Shape E) × Sound M O xs f.near a × Free O xs slot e a)
-      grow_down = (falls M xs root t S.fit f o, (o.a, sound_near M O xs root t S f o, near_free))
+      grow_down = (falls M xs root t S.fit f o, (o.a, sound_near M O L xs root t S f o, near_free))
 
       -- after that call
       module _ (ys : List (Node E Z)) (near : Option ℕ) (ih : (a : Shape E) → Sound M O xs f.near a → Free O xs slot e a → Grown xs slot e a ys near) where
         grown : Grown xs slot e o.a ys near
-        grown = ih o.a (sound_near M O xs root t S f o) near_free
+        grown = ih o.a (sound_near M O L xs root t S f o) near_free
 
         grown_row : placed (by_entry O) (slot, e) (row t) ≡ between f.side (row grown.0) (f.at, f.entry) (row o.b)
         grown_row =
             ap (placed (by_entry O) (slot, e)) (opens_row M xs root t S.fit f o)
-            ∙ placed_between (by_entry O) f.side (slot, e) (row o.a) (f.at, f.entry) (row o.b) (rises M O xs root t S f o) g
+            ∙ placed_between (by_entry O) L f.side (slot, e) (row o.a) (f.at, f.entry) (row o.b) (rises M O L xs root t S f o) g
             ∙ ap (λ (u : List (ℕ × E)). between f.side u (f.at, f.entry) (row o.b)) (sym grown.2)
 
         grown_once : Distinct (between f.side (row grown.0) (f.at, f.entry) (row o.b))

@@ -1,13 +1,18 @@
 -- Lists in the order of their keys: what a cut says, and what is done at a key.
-use Rattle.std.proofs.Common.{◌≡◌, Bool, true, false, cond, not, ◌||◌, List, [], ◌∷◌, ◌++◌, Some, None, Option, sym, refl, ap, ◌∙◌, subst, append_assoc}
+use Rattle.std.proofs.Common.{◌≡◌, Bool, true, false, cond, List, [], ◌∷◌, ◌++◌, Some, None, Option, sym, refl, ap, ◌∙◌, subst, append_assoc}
 use Rattle.std.proofs.ByRecursion.{All-weaker}
-use Rattle.std.proofs.lemmas.Bool.{both_ways, cond-true, cond-false, or_left, or_right, or_from, not_from_true, not_from_false}
+use Rattle.std.proofs.lemmas.Bool.{both_ways, cond-true, cond-false}
+use Rattle.std.proofs.lemmas.Cmp.{alike_right}
+use Rattle.std.specs.Cmp.{IsTotalOrder}
 use Rattle.std.specs.Option.{option_or}
+use Rattle.std.specs.Ordering.{is_lt, is_eq, ordering_reverse}
 use Rattle.std.specs.List.{AllByRecursion}
+use Rattle.std.specs.declared.cmp.Ordering.{Ordering}
+use Rattle.std.specs.declared.cmp.Ordering.TheVariants.{Less, Equal, Greater}
 use Rattle.tree.specs.declared.side.Side.{Side}
 use Rattle.tree.specs.declared.side.Side.TheVariants.{Left, Right}
 use Rattle.tree.specs.Lists.{placed, edited, first_of}
-use Rattle.tree.specs.Orders.{Order, past, below, at_key, Rising}
+use Rattle.tree.specs.Orders.{Order, past, at_key, Rising}
 use Rattle.tree.specs.Sides.{opposite, between, side_of}
 
 -- no entry passes
@@ -81,70 +86,91 @@ pub all_right : {A : Type 0} (P : A → Type 0) (xs ys : List A) → AllByRecurs
 all_right P [] ys h = h
 all_right P (x ∷ xs) ys h = all_right P xs ys h.1
 
+-- ---- comparisons
+lt_less : (r : Ordering) → is_lt r ≡ true → r ≡ Less
+lt_less Less h = refl
+lt_less Equal h = absurd (both_ways false refl h)
+lt_less Greater h = absurd (both_ways false refl h)
+
+lt_not_eq : (r : Ordering) → is_lt r ≡ true → is_eq r ≡ false
+lt_not_eq r h = ap is_eq (lt_less r h)
+
+eq_equal : (r : Ordering) → is_eq r ≡ true → r ≡ Equal
+eq_equal Less h = absurd (both_ways false refl h)
+eq_equal Equal h = refl
+eq_equal Greater h = absurd (both_ways false refl h)
+
+same_of : (r : Ordering) → side_of r ≡ None → r ≡ Equal
+same_of Less h = absurd (some_none Left h)
+same_of Equal h = refl
+same_of Greater h = absurd (some_none Right h)
+
 -- ---- the order
 module _ {A K : Type 0} (O : Order A K) where
+  abbrev pub less : K → K → Bool
+  less a b = is_lt (O.cmp a b)
+
   -- k belongs on the side of a
   abbrev pub Goes : Side → K → K → Type 0
-  Goes Left k a = O.less k a ≡ true
-  Goes Right k a = O.less a k ≡ true
+  Goes Left k a = less k a ≡ true
+  Goes Right k a = less a k ≡ true
 
-  pub side_goes : (k a : K) (side : Side) → side_of O k a ≡ Some side → Goes side k a
-  side_goes k a side h = go (O.less k a) refl (O.less a k) refl h
-    where
-      go : (b : Bool) → O.less k a ≡ b → (c : Bool) → O.less a k ≡ c → cond b (Some Left) (cond c (Some Right) None) ≡ Some side → Goes side k a
-      go true p c q e = subst (λ (s : Side). Goes s k a) (some_same Left side e) p
-      go false p true q e = subst (λ (s : Side). Goes s k a) (some_same Right side e) q
-      go false p false q e = absurd (some_none side (sym e))
+  pub side_same : (k a : K) → side_of (O.cmp k a) ≡ None → O.cmp k a ≡ Equal
+  side_same k a h = same_of (O.cmp k a) h
 
-  pub side_same : (k a : K) → side_of O k a ≡ None → a ≡ k
-  side_same k a h = go (O.less k a) refl (O.less a k) refl h
-    where
-      go : (b : Bool) → O.less k a ≡ b → (c : Bool) → O.less a k ≡ c → cond b (Some Left) (cond c (Some Right) None) ≡ None → a ≡ k
-      go true p c q e = absurd (some_none Left e)
-      go false p true q e = absurd (some_none Right e)
-      go false p false q e = O.total a k q p
+  pub same_at : (k : K) (e : A) → O.cmp k (O.key e) ≡ Equal → at_key O k e ≡ true
+  same_at k e q = ap is_eq q
 
-  less_not : (a b : K) → O.less a b ≡ true → O.less b a ≡ false
-  less_not a b h = go (O.less b a) refl
-    where
-      go : (c : Bool) → O.less b a ≡ c → c ≡ false
-      go true q = absurd (both_ways (O.less a a) (O.irreflexive a) (O.transitive a b a h q))
-      go false q = refl
+  pub at_same : (k : K) (e : A) → at_key O k e ≡ true → O.cmp k (O.key e) ≡ Equal
+  at_same k e h = eq_equal (O.cmp k (O.key e)) h
 
   past_not : (k : K) (e : A) → past O k e ≡ true → at_key O k e ≡ false
-  past_not k e h = not_from_true (past O k e || below O k e) (or_left (past O k e) (below O k e) h)
+  past_not k e h = lt_not_eq (O.cmp k (O.key e)) h
 
-  below_not : (k : K) (e : A) → below O k e ≡ true → at_key O k e ≡ false
-  below_not k e h = not_from_true (past O k e || below O k e) (or_right (past O k e) (below O k e) h)
+module _ {A K : Type 0} (O : Order A K) (L : IsTotalOrder O.cmp) where
+  pub turned : (a b : K) → less O a b ≡ true → O.cmp b a ≡ Greater
+  turned a b h = L.antisymm b a ∙ ap ordering_reverse (lt_less (O.cmp a b) h)
 
-  pub goes_not : (side : Side) (k : K) (e : A) → Goes side k (O.key e) → at_key O k e ≡ false
-  goes_not Left k e h = past_not k e h
-  goes_not Right k e h = below_not k e h
+  less_not : (a b : K) → less O a b ≡ true → less O b a ≡ false
+  less_not a b h = ap is_lt (turned a b h)
+
+  less_trans : (a b c : K) → less O a b ≡ true → less O b c ≡ true → less O a c ≡ true
+  less_trans a b c h i = ap is_lt (L.trans a b c (lt_less (O.cmp a b) h) (lt_less (O.cmp b c) i))
+
+  -- keys of which neither stands before the other
+  tied : (a b : K) → less O a b ≡ false → less O b a ≡ false → O.cmp a b ≡ Equal
+  tied a b h i = tied_by (O.cmp a b) refl
+    where
+      tied_by : (r : Ordering) → O.cmp a b ≡ r → O.cmp a b ≡ Equal
+      tied_by Less q = absurd (both_ways (less O a b) h (ap is_lt q))
+      tied_by Equal q = q
+      tied_by Greater q = absurd (both_ways (less O b a) i (ap is_lt (L.antisymm b a ∙ ap ordering_reverse q)))
+
+  goes_by : (k a : K) (r : Ordering) → O.cmp k a ≡ r → (side : Side) → side_of r ≡ Some side → Goes O side k a
+  goes_by k a Less q side h = subst (λ (s : Side). Goes O s k a) (some_same Left side h) (ap is_lt q)
+  goes_by k a Equal q side h = absurd (some_none side (sym h))
+  goes_by k a Greater q side h = subst (λ (s : Side). Goes O s k a) (some_same Right side h) (ap is_lt (L.antisymm a k ∙ ap ordering_reverse q))
+
+  pub side_goes : (k a : K) (side : Side) → side_of (O.cmp k a) ≡ Some side → Goes O side k a
+  side_goes k a side h = goes_by k a (O.cmp k a) refl side h
+
+  before_not : (k : K) (e : A) → less O (O.key e) k ≡ true → at_key O k e ≡ false
+  before_not k e h = ap is_eq (turned (O.key e) k h)
+
+  pub goes_not : (side : Side) (k : K) (e : A) → Goes O side k (O.key e) → at_key O k e ≡ false
+  goes_not Left k e h = past_not O k e h
+  goes_not Right k e h = before_not k e h
 
   -- what is beyond one that is not on the side is not either
-  beyond_not : (side : Side) (k a : K) (e : A) → Goes side k a → Goes (opposite side) (O.key e) a → at_key O k e ≡ false
-  beyond_not Left k a e h i = past_not k e (O.transitive k a (O.key e) h i)
-  beyond_not Right k a e h i = below_not k e (O.transitive (O.key e) a k i h)
-
-  pub same_at : (k : K) (e : A) → O.key e ≡ k → at_key O k e ≡ true
-  same_at k e q =
-      let p : past O k e ≡ false = ap (λ (x : K). O.less k x) q ∙ O.irreflexive k in
-      let b : below O k e ≡ false = ap (λ (x : K). O.less x k) q ∙ O.irreflexive k in
-      not_from_false (past O k e || below O k e) (or_from (past O k e) (below O k e) p b)
-
-  pub at_same : (k : K) (e : A) → at_key O k e ≡ true → O.key e ≡ k
-  at_same k e h = go (past O k e) refl (below O k e) refl h
-    where
-      go : (b : Bool) → past O k e ≡ b → (c : Bool) → below O k e ≡ c → not (b || c) ≡ true → O.key e ≡ k
-      go true p c q e' = absurd (both_ways true (sym e') refl)
-      go false p true q e' = absurd (both_ways true (sym e') refl)
-      go false p false q e' = O.total (O.key e) k q p
+  beyond_not : (side : Side) (k a : K) (e : A) → Goes O side k a → Goes O (opposite side) (O.key e) a → at_key O k e ≡ false
+  beyond_not Left k a e h i = past_not O k e (less_trans k a (O.key e) h i)
+  beyond_not Right k a e h i = before_not k e (less_trans (O.key e) a k i h)
 
   -- ---- rising lists
   -- a rising list that is cut at one
   pub record Cut (xs : List A) (p : A) (ys : List A) : Type 0 where
     pub lefts : Rising O xs
-    pub befores : AllByRecursion (λ x. below O (O.key p) x ≡ true) xs
+    pub befores : AllByRecursion (λ x. less O (O.key x) (O.key p) ≡ true) xs
     pub pasts : AllByRecursion (λ y. past O (O.key p) y ≡ true) ys
     pub rights : Rising O ys
 
@@ -164,16 +190,16 @@ module _ {A K : Type 0} (O : Order A K) where
   rising_near Right xs p ys h = (cut ys p xs h).rights
 
   -- none beyond has the key
-  pub no_far : (side : Side) (k : K) (xs : List A) (p : A) (ys : List A) → Rising O (between side xs p ys) → Goes side k (O.key p) → No (at_key O k) ys
+  pub no_far : (side : Side) (k : K) (xs : List A) (p : A) (ys : List A) → Rising O (between side xs p ys) → Goes O side k (O.key p) → No (at_key O k) ys
   no_far Left k xs p ys h g = All-weaker (λ y. past O (O.key p) y ≡ true) (λ y. at_key O k y ≡ false) (λ y i. beyond_not Left k (O.key p) y g i) ys (cut xs p ys h).pasts
-  no_far Right k xs p ys h g = All-weaker (λ y. below O (O.key p) y ≡ true) (λ y. at_key O k y ≡ false) (λ y i. beyond_not Right k (O.key p) y g i) ys (cut ys p xs h).befores
+  no_far Right k xs p ys h g = All-weaker (λ y. less O (O.key y) (O.key p) ≡ true) (λ y. at_key O k y ≡ false) (λ y i. beyond_not Right k (O.key p) y g i) ys (cut ys p xs h).befores
 
   -- no other has the key of p
-  pub no_left : (k : K) (xs : List A) (p : A) (ys : List A) → Rising O (xs ++ (p ∷ ys)) → O.key p ≡ k → No (at_key O k) xs
-  no_left k xs p ys h q = All-weaker (λ x. below O (O.key p) x ≡ true) (λ x. at_key O k x ≡ false) (λ x i. below_not k x (subst (λ (a : K). below O a x ≡ true) q i)) xs (cut xs p ys h).befores
+  pub no_left : (k : K) (xs : List A) (p : A) (ys : List A) → Rising O (xs ++ (p ∷ ys)) → O.cmp k (O.key p) ≡ Equal → No (at_key O k) xs
+  no_left k xs p ys h q = All-weaker (λ x. less O (O.key x) (O.key p) ≡ true) (λ x. at_key O k x ≡ false) (λ x i. ap is_eq (L.congr k (O.key p) (O.key x) q) ∙ before_not (O.key p) x i) xs (cut xs p ys h).befores
 
-  pub no_right : (k : K) (xs : List A) (p : A) (ys : List A) → Rising O (xs ++ (p ∷ ys)) → O.key p ≡ k → No (at_key O k) ys
-  no_right k xs p ys h q = All-weaker (λ y. past O (O.key p) y ≡ true) (λ y. at_key O k y ≡ false) (λ y i. past_not k y (subst (λ (a : K). past O a y ≡ true) q i)) ys (cut xs p ys h).pasts
+  pub no_right : (k : K) (xs : List A) (p : A) (ys : List A) → Rising O (xs ++ (p ∷ ys)) → O.cmp k (O.key p) ≡ Equal → No (at_key O k) ys
+  no_right k xs p ys h q = All-weaker (λ y. past O (O.key p) y ≡ true) (λ y. at_key O k y ≡ false) (λ y i. ap is_eq (L.congr k (O.key p) (O.key y) q) ∙ past_not O (O.key p) y i) ys (cut xs p ys h).pasts
 
   -- ---- one more in its place
   cond_append : (b : Bool) (xs ys zs : List A) → cond b (xs ++ zs) (ys ++ zs) ≡ cond b xs ys ++ zs
@@ -186,13 +212,13 @@ module _ {A K : Type 0} (O : Order A K) where
       let b = past O (O.key q) x in
       ap (λ (u : List A). cond b (q ∷ (x ∷ (xs ++ (p ∷ ys)))) (x ∷ u)) (placed_left q xs p ys h) ∙ cond_append b (q ∷ (x ∷ xs)) (x ∷ placed O q xs) (p ∷ ys)
 
-  placed_right : (q : A) (xs : List A) (p : A) (ys : List A) → AllByRecursion (λ x. below O (O.key p) x ≡ true) xs → below O (O.key q) p ≡ true → placed O q (xs ++ (p ∷ ys)) ≡ xs ++ (p ∷ placed O q ys)
+  placed_right : (q : A) (xs : List A) (p : A) (ys : List A) → AllByRecursion (λ x. less O (O.key x) (O.key p) ≡ true) xs → less O (O.key p) (O.key q) ≡ true → placed O q (xs ++ (p ∷ ys)) ≡ xs ++ (p ∷ placed O q ys)
   placed_right q [] p ys b h = cond-false (past O (O.key q) p) (q ∷ (p ∷ ys)) (p ∷ placed O q ys) (less_not (O.key p) (O.key q) h)
   placed_right q (x ∷ xs) p ys b h =
-      cond-false (past O (O.key q) x) (q ∷ (x ∷ (xs ++ (p ∷ ys)))) (x ∷ placed O q (xs ++ (p ∷ ys))) (less_not (O.key x) (O.key q) (O.transitive (O.key x) (O.key p) (O.key q) b.0 h))
+      cond-false (past O (O.key q) x) (q ∷ (x ∷ (xs ++ (p ∷ ys)))) (x ∷ placed O q (xs ++ (p ∷ ys))) (less_not (O.key x) (O.key q) (less_trans (O.key x) (O.key p) (O.key q) b.0 h))
       ∙ ap (λ (u : List A). x ∷ u) (placed_right q xs p ys b.1 h)
 
-  pub placed_between : (side : Side) (q : A) (xs : List A) (p : A) (ys : List A) → Rising O (between side xs p ys) → Goes side (O.key q) (O.key p) → placed O q (between side xs p ys) ≡ between side (placed O q xs) p ys
+  pub placed_between : (side : Side) (q : A) (xs : List A) (p : A) (ys : List A) → Rising O (between side xs p ys) → Goes O side (O.key q) (O.key p) → placed O q (between side xs p ys) ≡ between side (placed O q xs) p ys
   placed_between Left q xs p ys h g = placed_left q xs p ys g
   placed_between Right q xs p ys h g = placed_right q ys p xs (cut ys p xs h).befores g
 
@@ -206,19 +232,19 @@ module _ {A K : Type 0} (O : Order A K) where
 
   pub rising_placed : (q : A) (xs : List A) → Rising O xs → No (at_key O (O.key q)) xs → Rising O (placed O q xs)
   rising_placed q [] h n = (tt, tt)
-  rising_placed q (x ∷ xs) h n = go (past O (O.key q) x) refl (below O (O.key q) x) refl (rising_placed q xs h.1 n.1)
+  rising_placed q (x ∷ xs) h n = go (past O (O.key q) x) refl (less O (O.key x) (O.key q)) refl (rising_placed q xs h.1 n.1)
     where
-      go : (b : Bool) → past O (O.key q) x ≡ b → (c : Bool) → below O (O.key q) x ≡ c → Rising O (placed O q xs) → Rising O (cond b (q ∷ (x ∷ xs)) (x ∷ placed O q xs))
-      go true i c j r = ((i, All-weaker (λ f. past O (O.key x) f ≡ true) (λ f. past O (O.key q) f ≡ true) (λ f l. O.transitive (O.key q) (O.key x) (O.key f) i l) xs h.0), h)
+      go : (b : Bool) → past O (O.key q) x ≡ b → (c : Bool) → less O (O.key x) (O.key q) ≡ c → Rising O (placed O q xs) → Rising O (cond b (q ∷ (x ∷ xs)) (x ∷ placed O q xs))
+      go true i c j r = ((i, All-weaker (λ f. past O (O.key x) f ≡ true) (λ f. past O (O.key q) f ≡ true) (λ f l. less_trans (O.key q) (O.key x) (O.key f) i l) xs h.0), h)
       go false i true j r = (all_placed (λ f. past O (O.key x) f ≡ true) q xs j h.0, r)
-      go false i false j r = absurd (both_ways (at_key O (O.key q) x) n.0 (same_at (O.key q) x (O.total (O.key x) (O.key q) j i)))
+      go false i false j r = absurd (both_ways (at_key O (O.key q) x) n.0 (same_at O (O.key q) x (tied (O.key q) (O.key x) i j)))
 
   -- ---- the entry of a key
   pub record Found (k : K) (es : List A) (p : A) : Type 0 where
     pub before : List A
     pub after : List A
     pub is : es ≡ before ++ (p ∷ after)
-    pub here : O.key p ≡ k
+    pub here : O.cmp k (O.key p) ≡ Equal
     pub no_before : No (at_key O k) before
     pub no_after : No (at_key O k) after
 
@@ -234,11 +260,11 @@ module _ {A K : Type 0} (O : Order A K) where
   found k es p rises h =
       let s = split (at_key O k) es p h in
       let r : Rising O (s.0 ++ (p ∷ s.1)) = subst (Rising O) s.2 rises in
-      let q = at_same k p s.3 in
+      let q = at_same O k p s.3 in
       record { before = s.0; after = s.1; is = s.2; here = q; no_before = no_left k s.0 p s.1 r q; no_after = no_right k s.0 p s.1 r q }
 
   pub found_edited : (k : K) (es : List A) (p : A) (g : A → List A) → (F : Found k es p) → edited (at_key O k) g es ≡ F.before ++ (g p ++ F.after)
-  found_edited k es p g F = ap (edited (at_key O k) g) F.is ∙ edited_here (at_key O k) g F.before p F.after F.no_before (same_at k p F.here) F.no_after
+  found_edited k es p g F = ap (edited (at_key O k) g) F.is ∙ edited_here (at_key O k) g F.before p F.after F.no_before (same_at O k p F.here) F.no_after
 
   -- a rising list without one, and with another of the same key in its place
   all_out : (P : A → Type 0) (xs : List A) (p : A) (ys : List A) → AllByRecursion P (xs ++ (p ∷ ys)) → AllByRecursion P (xs ++ ys)
@@ -249,10 +275,10 @@ module _ {A K : Type 0} (O : Order A K) where
   rising_out [] p ys h = h.1
   rising_out (x ∷ xs) p ys h = (all_out (λ f. past O (O.key x) f ≡ true) xs p ys h.0, rising_out xs p ys h.1)
 
-  all_swap : (k : K) (xs : List A) (p q : A) (ys : List A) → O.key p ≡ O.key q → AllByRecursion (λ f. past O k f ≡ true) (xs ++ (p ∷ ys)) → AllByRecursion (λ f. past O k f ≡ true) (xs ++ (q ∷ ys))
-  all_swap k [] p q ys e h = (ap (λ (a : K). O.less k a) (sym e) ∙ h.0, h.1)
+  all_swap : (k : K) (xs : List A) (p q : A) (ys : List A) → O.cmp (O.key p) (O.key q) ≡ Equal → AllByRecursion (λ f. past O k f ≡ true) (xs ++ (p ∷ ys)) → AllByRecursion (λ f. past O k f ≡ true) (xs ++ (q ∷ ys))
+  all_swap k [] p q ys e h = (ap is_lt (sym (alike_right L (O.key p) (O.key q) k e)) ∙ h.0, h.1)
   all_swap k (x ∷ xs) p q ys e h = (h.0, all_swap k xs p q ys e h.1)
 
-  pub rising_swap : (xs : List A) (p q : A) (ys : List A) → O.key p ≡ O.key q → Rising O (xs ++ (p ∷ ys)) → Rising O (xs ++ (q ∷ ys))
-  rising_swap [] p q ys e h = (subst (λ (a : K). AllByRecursion (λ f. past O a f ≡ true) ys) e h.0, h.1)
+  pub rising_swap : (xs : List A) (p q : A) (ys : List A) → O.cmp (O.key p) (O.key q) ≡ Equal → Rising O (xs ++ (p ∷ ys)) → Rising O (xs ++ (q ∷ ys))
+  rising_swap [] p q ys e h = (All-weaker (λ f. past O (O.key p) f ≡ true) (λ f. past O (O.key q) f ≡ true) (λ f i. ap is_lt (sym (L.congr (O.key p) (O.key q) (O.key f) e)) ∙ i) ys h.0, h.1)
   rising_swap (x ∷ xs) p q ys e h = (all_swap (O.key x) xs p q ys e h.0, rising_swap xs p q ys e h.1)

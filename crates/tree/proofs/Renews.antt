@@ -3,6 +3,8 @@ use Rattle.std.proofs.Common.{◌≡◌, ℕ, ◌<◌, ◌≤◌, ◌≢◌, fal
 use Rattle.std.proofs.ByRecursion.{All-append}
 use Rattle.std.proofs.lemmas.List.{get_or_default}
 use Rattle.std.specs.List.{AllByRecursion}
+use Rattle.std.proofs.lemmas.Cmp.{tied_itself}
+use Rattle.std.specs.Cmp.{IsTotalOrder}
 use Rattle.tree.specs.declared.fork.Fork.{Fork}
 use Rattle.tree.specs.declared.node.Node.{Node}
 use Rattle.tree.specs.declared.side.Side.TheVariants.{Left}
@@ -21,7 +23,7 @@ use Rattle.tree.proofs.Ordered.{No, Goes, found, first_between, edited_between, 
 use Rattle.tree.proofs.Slots.{parts, in_left, in_right, in_drop}
 use Rattle.tree.proofs.Trees.{ents_node}
 
-module _ {E K Z : Type 0} (M : Z → List E → Type 0) (O : Order E K) where
+module _ {E K Z : Type 0} (M : Z → List E → Type 0) (O : Order E K) (L : IsTotalOrder O.cmp) where
   -- what a writing gives
   abbrev pub Renewed : List (Node E Z) → Option ℕ → E → Shape E → List (Node E Z) → Option ℕ → Type 0
   Renewed xs to e t ys top = (u : Shape E) × Changed M xs t ys top u × (row u ≡ reseated O to e (row t))
@@ -29,10 +31,10 @@ module _ {E K Z : Type 0} (M : Z → List E → Type 0) (O : Order E K) where
   module _ (xs : List (Node E Z)) (root : Option ℕ) (to : Option ℕ) (e : E) (t : Shape E) (p : ℕ × E) (S : Sound M O xs root t) (V : Vacant O xs to e p t) where
     module _ (f : Fork E) (o : Parted M xs f t) (g : Goes O f.side (O.key e) (O.key f.entry)) where
       none_far : No (at_key (by_entry O) (O.key e)) (row o.b)
-      none_far = no_far (by_entry O) f.side (O.key e) (row o.a) (f.at, f.entry) (row o.b) (rises M O xs root t S f o) g
+      none_far = no_far (by_entry O) L f.side (O.key e) (row o.a) (f.at, f.entry) (row o.b) (rises M O L xs root t S f o) g
 
       not_here : at_key (by_entry O) (O.key e) (f.at, f.entry) ≡ false
-      not_here = goes_not (by_entry O) f.side (O.key e) (f.at, f.entry) g
+      not_here = goes_not (by_entry O) L f.side (O.key e) (f.at, f.entry) g
 
       near_vacant : Vacant O xs to e p o.a
       near_vacant =
@@ -45,12 +47,12 @@ module _ {E K Z : Type 0} (M : Z → List E → Type 0) (O : Order E K) where
 
       -- what the call for the near side asks
       pub renew_down : (stored_height xs f.near < stored_height xs root) × ((a : Shape E) × (q : ℕ × E) × Sound M O xs f.near a × Vacant O xs to e q a)
-      renew_down = (falls M xs root t S.fit f o, (o.a, p, sound_near M O xs root t S f o, near_vacant))
+      renew_down = (falls M xs root t S.fit f o, (o.a, p, sound_near M O L xs root t S f o, near_vacant))
 
       -- after that call
       module _ (ys : List (Node E Z)) (near : Option ℕ) (ih : (a : Shape E) (q : ℕ × E) → Sound M O xs f.near a → Vacant O xs to e q a → Renewed xs to e a ys near) where
         new : Renewed xs to e o.a ys near
-        new = ih o.a p (sound_near M O xs root t S f o) near_vacant
+        new = ih o.a p (sound_near M O L xs root t S f o) near_vacant
 
         new_row : reseated O to e (row t) ≡ between f.side (row new.0) (f.at, f.entry) (row o.b)
         new_row =
@@ -60,8 +62,8 @@ module _ {E K Z : Type 0} (M : Z → List E → Type 0) (O : Order E K) where
 
         new_once : Distinct (between f.side (row new.0) (f.at, f.entry) (row o.b))
         new_once =
-            let F = found (by_entry O) (O.key e) (row t) p S.rising V.there in
-            subst Distinct (sym (swap_row O (row t) p to e F) ∙ new_row) (swap_once O (O.key e) (row t) p S.fit.once F xs to e V.unused)
+            let F = found (by_entry O) L (O.key e) (row t) p S.rising V.there in
+            subst Distinct (sym (swap_row O L (row t) p to e F) ∙ new_row) (swap_once O L (O.key e) (row t) p S.fit.once F xs to e V.unused)
 
         new_ready : Ready M ys (onto f near) new.0 o.b
         new_ready = ready_back M xs root t S.fit f o ys near new.0 new.1 new_once
@@ -75,7 +77,7 @@ module _ {E K Z : Type 0} (M : Z → List E → Type 0) (O : Order E K) where
             (j.0, changed_back M xs root t S.fit f o ys near new.0 new.1 new_once zs top j.0 j.1, j.1.order ∙ row_over f new.0 o.b ∙ sym new_row)
 
     -- in place of the root's own entry
-    pub renew_here : (at : ℕ) (n : Node E Z) → Parted M xs (fork_of at Left n) t → (ys : List (Node E Z)) (place : ℕ) → place ≡ unwrap_or to at → side_of O (O.key e) (O.key n.entry) ≡ None → (h : Fork E) → h ≡ fork_of at Left n → Putted M xs (record h { at = place; entry = e }) ys → Renewed xs to e t ys (Some place)
+    pub renew_here : (at : ℕ) (n : Node E Z) → Parted M xs (fork_of at Left n) t → (ys : List (Node E Z)) (place : ℕ) → place ≡ unwrap_or to at → side_of (O.cmp (O.key e) (O.key n.entry)) ≡ None → (h : Fork E) → h ≡ fork_of at Left n → Putted M xs (record h { at = place; entry = e }) ys → Renewed xs to e t ys (Some place)
     renew_here at n o ys place pe same g ge put =
         let f = fork_of at Left n in
         let q = subst (λ (x : Fork E). Putted M xs (record x { at = place; entry = e }) ys) ge put in
@@ -84,7 +86,7 @@ module _ {E K Z : Type 0} (M : Z → List E → Type 0) (O : Order E K) where
         let h = opens_tall M xs root t F f o in
         let i = low M xs t q.small F.avl F.once F.stands.1 in
         let w = opens_row M xs root t F f o in
-        let r = rises M O xs root t S f o in
+        let r = rises M O L xs root t S f o in
         let k = side_same O (O.key e) (O.key n.entry) same in
         let P = at_key (by_entry O) (O.key e) in
         let c = parts (row o.a) (at, n.entry) (row o.b) (opens_once M xs root t F f o) in
@@ -103,7 +105,7 @@ module _ {E K Z : Type 0} (M : Z → List E → Type 0) (O : Order E K) where
             lower = omega arith;
             taller = omega arith;
           },
-          ap (λ (s : ℕ). row o.a ++ ((s, e) ∷ row o.b)) pe ∙ sym (ap (reseated O to e) w ∙ edited_here P (λ x. (unwrap_or to x.0, e) ∷ []) (row o.a) (at, n.entry) (row o.b) (no_left (by_entry O) (O.key e) (row o.a) (at, n.entry) (row o.b) r k) (same_at (by_entry O) (O.key e) (at, n.entry) k) (no_right (by_entry O) (O.key e) (row o.a) (at, n.entry) (row o.b) r k)),
+          ap (λ (s : ℕ). row o.a ++ ((s, e) ∷ row o.b)) pe ∙ sym (ap (reseated O to e) w ∙ edited_here P (λ x. (unwrap_or to x.0, e) ∷ []) (row o.a) (at, n.entry) (row o.b) (no_left (by_entry O) L (O.key e) (row o.a) (at, n.entry) (row o.b) r k) (same_at (by_entry O) (O.key e) (at, n.entry) k) (no_right (by_entry O) L (O.key e) (row o.a) (at, n.entry) (row o.b) r k)),
         )
 
   -- ---- the move of the last entry
@@ -138,7 +140,7 @@ module _ {E K Z : Type 0} (M : Z → List E → Type 0) (O : Order E K) where
             let f : m.entry ≡ c.1 = (all_right (λ q. (x : Node E Z) → x ≡ get_or xs q.0 x → x.entry ≡ q.1) c.0 ((last, c.1) ∷ c.2) (subst (AllByRecursion (λ q. (x : Node E Z) → x ≡ get_or xs q.0 x → x.entry ≡ q.1)) c.3 (entries_stored xs t S.fit.stands.1))).0 m read in
             let is : row t ≡ c.0 ++ ((last, m.entry) ∷ c.2) = c.3 ∙ ap (λ (x : E). c.0 ++ ((last, x) ∷ c.2)) (sym f) in
             let r : Rising (by_entry O) (c.0 ++ ((last, m.entry) ∷ c.2)) = subst (Rising (by_entry O)) is S.rising in
-            ap (first_of (at_key (by_entry O) (O.key m.entry))) is ∙ first_here (at_key (by_entry O) (O.key m.entry)) c.0 (last, m.entry) c.2 (no_left (by_entry O) (O.key m.entry) c.0 (last, m.entry) c.2 r refl) (same_at (by_entry O) (O.key m.entry) (last, m.entry) refl)
+            ap (first_of (at_key (by_entry O) (O.key m.entry))) is ∙ first_here (at_key (by_entry O) (O.key m.entry)) c.0 (last, m.entry) c.2 (no_left (by_entry O) L (O.key m.entry) c.0 (last, m.entry) c.2 r (tied_itself L (O.key m.entry))) (same_at (by_entry O) (O.key m.entry) (last, m.entry) (tied_itself L (O.key m.entry)))
         | inr gone ↦ absurd (gone (G.there lt))
       ]
 
@@ -152,8 +154,8 @@ module _ {E K Z : Type 0} (M : Z → List E → Type 0) (O : Order E K) where
       fill_moved ys top renew =
           let R = renew t (last, m.entry) S last_vacant in
           let k = O.key m.entry in
-          let F = found (by_entry O) k (row t) (last, m.entry) S.rising last_there in
-          let w : row R.0 ≡ F.before ++ ((slot, m.entry) ∷ F.after) = R.2 ∙ swap_row O (row t) (last, m.entry) (Some slot) m.entry F in
+          let F = found (by_entry O) L k (row t) (last, m.entry) S.rising last_there in
+          let w : row R.0 ≡ F.before ++ ((slot, m.entry) ∷ F.after) = R.2 ∙ swap_row O L (row t) (last, m.entry) (Some slot) m.entry F in
           let long = R.1.frame.long in (
             R.0,
             record {
@@ -161,17 +163,17 @@ module _ {E K Z : Type 0} (M : Z → List E → Type 0) (O : Order E K) where
                 fit = record {
                   stands = R.1.stands;
                   avl = R.1.avl;
-                  once = subst Distinct (sym w) (swap_once O k (row t) (last, m.entry) S.fit.once F xs (Some slot) m.entry last_vacant.unused);
+                  once = subst Distinct (sym w) (swap_once O L k (row t) (last, m.entry) S.fit.once F xs (Some slot) m.entry last_vacant.unused);
                 };
-                rising = subst (Rising (by_entry O)) (sym w) (swap_rising O k (row t) (last, m.entry) S.fit.once F slot m.entry refl S.rising);
+                rising = subst (Rising (by_entry O)) (sym w) (swap_rising O L k (row t) (last, m.entry) S.fit.once F slot m.entry refl S.rising);
               };
               long = long;
               same = ap ents w ∙ ents_node F.before (slot, m.entry) F.after ∙ sym (ap ents F.is ∙ ents_node F.before (last, m.entry) F.after);
               used = λ j i. elim (in_drop j F.before (slot, m.entry) F.after (subst (In j) w i)) [
                 | inl q ↦ omega (arith, q, lt)
                 | inr b ↦
-                    let le : j ≤ last = G.used j (out_in O k (row t) (last, m.entry) S.fit.once F j b) in
-                    let ne : j ≢ last = λ q. out_new O k (row t) (last, m.entry) S.fit.once F (subst (λ (x : ℕ). In x (F.before ++ F.after)) q b) in
+                    let le : j ≤ last = G.used j (out_in O L k (row t) (last, m.entry) S.fit.once F j b) in
+                    let ne : j ≢ last = λ q. out_new O L k (row t) (last, m.entry) S.fit.once F (subst (λ (x : ℕ). In x (F.before ++ F.after)) q b) in
                     omega arith
               ];
             },

@@ -1,5 +1,6 @@
 -- The steps of a removal.
 use Rattle.std.proofs.Common.{◌≡◌, ℕ, ◌<◌, Bool, false, List, [], ◌∷◌, ◌++◌, Some, None, Option, sym, refl, ap, ◌∙◌, subst, inl, inr, append-nil, arith}
+use Rattle.std.specs.Cmp.{IsTotalOrder}
 use Rattle.tree.specs.declared.fork.Fork.{Fork}
 use Rattle.tree.specs.declared.node.Node.{Node}
 use Rattle.tree.specs.declared.side.Side.TheVariants.{Left, Right}
@@ -117,7 +118,7 @@ module _ {E Z : Type 0} (M : Z → List E → Type 0) (xs : List (Node E Z)) (le
 pub there_not : {E Z : Type 0} (M : Z → List E → Type 0) (xs : List (Node E Z)) (t : Shape E) (Q : ℕ × E → Bool) (p : ℕ × E) → Stands M xs None t → first_of Q (row t) ≡ Some p → ⊥
 there_not M xs t Q p s h = some_none p (sym h ∙ ap (λ (x : Shape _). first_of Q (row x)) (none_leaf M xs t s))
 
-module _ {E K Z : Type 0} (M : Z → List E → Type 0) (O : Order E K) (k : K) where
+module _ {E K Z : Type 0} (M : Z → List E → Type 0) (O : Order E K) (L : IsTotalOrder O.cmp) (k : K) where
   -- what a removal gives
   abbrev pub Takes : List (Node E Z) → Shape E → ℕ × E → List (Node E Z) → Option ℕ → ℕ × E → Type 0
   Takes xs t p ys top q = (u : Shape E) × Changed M xs t ys top u × (row u ≡ without (at_key (by_entry O) k) (row t)) × (p ≡ q)
@@ -125,22 +126,22 @@ module _ {E K Z : Type 0} (M : Z → List E → Type 0) (O : Order E K) (k : K) 
   module _ (xs : List (Node E Z)) (root : Option ℕ) (t : Shape E) (p : ℕ × E) (S : Sound M O xs root t) (here : first_of (at_key (by_entry O) k) (row t) ≡ Some p) where
     module _ (f : Fork E) (o : Parted M xs f t) (g : Goes O f.side k (O.key f.entry)) where
       none_far : No (at_key (by_entry O) k) (row o.b)
-      none_far = no_far (by_entry O) f.side k (row o.a) (f.at, f.entry) (row o.b) (rises M O xs root t S f o) g
+      none_far = no_far (by_entry O) L f.side k (row o.a) (f.at, f.entry) (row o.b) (rises M O L xs root t S f o) g
 
       not_here : at_key (by_entry O) k (f.at, f.entry) ≡ false
-      not_here = goes_not (by_entry O) f.side k (f.at, f.entry) g
+      not_here = goes_not (by_entry O) L f.side k (f.at, f.entry) g
 
       near_there : first_of (at_key (by_entry O) k) (row o.a) ≡ Some p
       near_there = sym (first_between (at_key (by_entry O) k) f.side (row o.a) (f.at, f.entry) (row o.b) not_here none_far) ∙ sym (ap (first_of (at_key (by_entry O) k)) (opens_row M xs root t S.fit f o)) ∙ here
 
       -- what the call for the near side asks
       pub take_down : (stored_height xs f.near < stored_height xs root) × ((a : Shape E) × (q : ℕ × E) × Sound M O xs f.near a × (first_of (at_key (by_entry O) k) (row a) ≡ Some q))
-      take_down = (falls M xs root t S.fit f o, (o.a, p, sound_near M O xs root t S f o, near_there))
+      take_down = (falls M xs root t S.fit f o, (o.a, p, sound_near M O L xs root t S f o, near_there))
 
       -- after that call
       module _ (ys : List (Node E Z)) (near : Option ℕ) (w : ℕ × E) (ih : (a : Shape E) (q : ℕ × E) → Sound M O xs f.near a → first_of (at_key (by_entry O) k) (row a) ≡ Some q → Takes xs a q ys near w) where
         took : Takes xs o.a p ys near w
-        took = ih o.a p (sound_near M O xs root t S f o) near_there
+        took = ih o.a p (sound_near M O L xs root t S f o) near_there
 
         took_row : without (at_key (by_entry O) k) (row t) ≡ between f.side (row took.0) (f.at, f.entry) (row o.b)
         took_row =
@@ -150,8 +151,8 @@ module _ {E K Z : Type 0} (M : Z → List E → Type 0) (O : Order E K) (k : K) 
 
         took_once : Distinct (between f.side (row took.0) (f.at, f.entry) (row o.b))
         took_once =
-            let F = found (by_entry O) k (row t) p S.rising here in
-            subst Distinct (sym (out_row O k (row t) p S.fit.once F) ∙ took_row) (out_once O k (row t) p S.fit.once F)
+            let F = found (by_entry O) L k (row t) p S.rising here in
+            subst Distinct (sym (out_row O L k (row t) p S.fit.once F) ∙ took_row) (out_once O L k (row t) p S.fit.once F)
 
         took_ready : Ready M ys (onto f near) took.0 o.b
         took_ready = ready_back M xs root t S.fit f o ys near took.0 took.1 took_once
@@ -183,16 +184,16 @@ module _ {E K Z : Type 0} (M : Z → List E → Type 0) (O : Order E K) (k : K) 
       pub take_pair : (l : Shape E) × (r : Shape E) × Pair M xs n.left n.right l r
       take_pair = (o.a, o.b, root_pair)
 
-      pub take_here : (ys : List (Node E Z)) (top : Option ℕ) → side_of O k (O.key n.entry) ≡ None → ((l r : Shape E) → Pair M xs n.left n.right l r → (u : Shape E) × Glued M xs l r ys top u) → Takes xs t p ys top (at, n.entry)
+      pub take_here : (ys : List (Node E Z)) (top : Option ℕ) → side_of (O.cmp k (O.key n.entry)) ≡ None → ((l r : Shape E) → Pair M xs n.left n.right l r → (u : Shape E) × Glued M xs l r ys top u) → Takes xs t p ys top (at, n.entry)
       take_here ys top same glue =
           let f = fork_of at Left n in
           let h = opens_tall M xs root t S.fit f o in
           let w = opens_row M xs root t S.fit f o in
-          let r = rises M O xs root t S f o in
+          let r = rises M O L xs root t S f o in
           let q = side_same O k (O.key n.entry) same in
           let P = at_key (by_entry O) k in
-          let nl = no_left (by_entry O) k (row o.a) (at, n.entry) (row o.b) r q in
-          let nr = no_right (by_entry O) k (row o.a) (at, n.entry) (row o.b) r q in
+          let nl = no_left (by_entry O) L k (row o.a) (at, n.entry) (row o.b) r q in
+          let nr = no_right (by_entry O) L k (row o.a) (at, n.entry) (row o.b) r q in
           let here_at = same_at (by_entry O) k (at, n.entry) q in
           let j = glue o.a o.b root_pair in
           let gl = j.1.lower in

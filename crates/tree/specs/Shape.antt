@@ -33,7 +33,7 @@ ents ps = map (λ p. p.1) ps
 
 -- slots with entries, in the order of the entries
 abbrev pub by_entry : {E K : Type 0} → Order E K → Order (ℕ × E) K
-by_entry O = record { key = λ p. O.key p.1; less = O.less; irreflexive = O.irreflexive; transitive = O.transitive; total = O.total }
+by_entry O = record { key = λ p. O.key p.1; cmp = O.cmp }
 
 -- the slot k stands in the row
 abbrev pub In : {E : Type 0} → ℕ → List (ℕ × E) → Type 0

@@ -1,10 +1,11 @@
 -- The two sides of a node. Assumes nothing.
-use Rattle.std.specs.Prelude.{ℕ, cond, List, ◌∷◌, ◌++◌, Some, None, Option}
+use Rattle.std.specs.Prelude.{ℕ, List, ◌∷◌, ◌++◌, Some, None, Option}
+use Rattle.std.specs.declared.cmp.Ordering.{Ordering}
+use Rattle.std.specs.declared.cmp.Ordering.TheVariants.{Less, Equal, Greater}
 use Rattle.tree.specs.declared.fork.Fork.{Fork}
 use Rattle.tree.specs.declared.node.Node.{Node}
 use Rattle.tree.specs.declared.side.Side.{Side}
 use Rattle.tree.specs.declared.side.Side.TheVariants.{Left, Right}
-use Rattle.tree.specs.Orders.{Order}
 
 abbrev pub opposite : Side → Side
 opposite Left = Right
@@ -33,6 +34,8 @@ mirrored f = record f { side = opposite f.side; near = f.far; far = f.near }
 abbrev pub between : {A : Type 0} → Side → List A → A → List A → List A
 between side near p far = pick side near far ++ (p ∷ pick side far near)
 
--- the side of the key a on which k belongs
-abbrev pub side_of : {A K : Type 0} → Order A K → K → K → Option Side
-side_of O k a = cond (O.less k a) (Some Left) (cond (O.less a k) (Some Right) None)
+-- the side on which a key belongs that compares so with a node's
+abbrev pub side_of : Ordering → Option Side
+side_of Less = Some Left
+side_of Equal = None
+side_of Greater = Some Right

@@ -1,6 +1,6 @@
 // Putting entries in, taking them out, and writing one in another's place.
 ghost use Rattle.std.specs.Prelude.{◌≡◌, ℕ, ◌<◌, ◌∷◌, ◌++◌};
-ghost use Rattle.tree.specs.Orders.{at_key};
+ghost use Rattle.tree.specs.Orders.{order_by, at_key};
 ghost use Rattle.tree.specs.Lists.{placed, without, first_of};
 ghost use Rattle.tree.specs.Shape.{Shape, row, by_entry};
 ghost use Rattle.tree.specs.Sound.{Fit, Sound};
@@ -22,8 +22,8 @@ pub(crate) struct Taken<E> {
 impl<E: Entry> Nodes<'_, E, E::Summary> {
     // Puts an entry whose key is not there into the tree at `root`, in a free slot, and returns the new root.
     pub(crate) fn insert(&mut self, root: Option<usize>, slot: usize, entry: E) -> usize
-        requires { (t : Shape E) × Sound E.sums E.order self.old.table.now root t × Free E.order self.old.table.now slot entry t }
-        ensures { (t : Shape E) → Sound E.sums E.order self.old.table.now root t → Free E.order self.old.table.now slot entry t → (u : Shape E) × Changed E.sums self.old.table.now t self.new.table.now (Some result) u × (row u ≡ placed (by_entry E.order) (slot, entry) (row t)) }
+        requires { (t : Shape E) × Sound E.sums (order_by E.key E.Key.cmp) self.old.table.now root t × Free (order_by E.key E.Key.cmp) self.old.table.now slot entry t }
+        ensures { (t : Shape E) → Sound E.sums (order_by E.key E.Key.cmp) self.old.table.now root t → Free (order_by E.key E.Key.cmp) self.old.table.now slot entry t → (u : Shape E) × Changed E.sums self.old.table.now t self.new.table.now (Some result) u × (row u ≡ placed (by_entry (order_by E.key E.Key.cmp)) (slot, entry) (row t)) }
     {
         let Some(at) = root else {
             self.put(Fork {
@@ -98,8 +98,8 @@ impl<E: Entry> Nodes<'_, E, E::Summary> {
 
     // Takes the entry of a key out of a tree that has it.
     pub(crate) fn take(&mut self, root: Option<usize>, key: E::Key) -> Taken<E>
-        requires { (t : Shape E) × (p : ℕ × E) × Sound E.sums E.order self.old.table.now root t × (first_of (at_key (by_entry E.order) key) (row t) ≡ Some p) }
-        ensures { (t : Shape E) (p : ℕ × E) → Sound E.sums E.order self.old.table.now root t → first_of (at_key (by_entry E.order) key) (row t) ≡ Some p → (u : Shape E) × Changed E.sums self.old.table.now t self.new.table.now result.root u × (row u ≡ without (at_key (by_entry E.order) key) (row t)) × (p ≡ (result.slot, result.entry)) }
+        requires { (t : Shape E) × (p : ℕ × E) × Sound E.sums (order_by E.key E.Key.cmp) self.old.table.now root t × (first_of (at_key (by_entry (order_by E.key E.Key.cmp)) key) (row t) ≡ Some p) }
+        ensures { (t : Shape E) (p : ℕ × E) → Sound E.sums (order_by E.key E.Key.cmp) self.old.table.now root t → first_of (at_key (by_entry (order_by E.key E.Key.cmp)) key) (row t) ≡ Some p → (u : Shape E) × Changed E.sums self.old.table.now t self.new.table.now result.root u × (row u ≡ without (at_key (by_entry (order_by E.key E.Key.cmp)) key) (row t)) × (p ≡ (result.slot, result.entry)) }
     {
         let Some(at) = root else { unreachable!() };
         let n = self.node(at);
@@ -127,8 +127,8 @@ impl<E: Entry> Nodes<'_, E, E::Summary> {
     // Writes an entry in place of the one with its key, which there is, in that one's slot or in the free one that is
     // given, and returns the new root.
     pub(crate) fn renew(&mut self, root: Option<usize>, to: Option<usize>, entry: E) -> usize
-        requires { (t : Shape E) × (p : ℕ × E) × Sound E.sums E.order self.old.table.now root t × Vacant E.order self.old.table.now to entry p t }
-        ensures { (t : Shape E) (p : ℕ × E) → Sound E.sums E.order self.old.table.now root t → Vacant E.order self.old.table.now to entry p t → (u : Shape E) × Changed E.sums self.old.table.now t self.new.table.now (Some result) u × (row u ≡ reseated E.order to entry (row t)) }
+        requires { (t : Shape E) × (p : ℕ × E) × Sound E.sums (order_by E.key E.Key.cmp) self.old.table.now root t × Vacant (order_by E.key E.Key.cmp) self.old.table.now to entry p t }
+        ensures { (t : Shape E) (p : ℕ × E) → Sound E.sums (order_by E.key E.Key.cmp) self.old.table.now root t → Vacant (order_by E.key E.Key.cmp) self.old.table.now to entry p t → (u : Shape E) × Changed E.sums self.old.table.now t self.new.table.now (Some result) u × (row u ≡ reseated (order_by E.key E.Key.cmp) to entry (row t)) }
     {
         let Some(at) = root else { unreachable!() };
         let n = self.node(at);
@@ -155,8 +155,8 @@ impl<E: Entry> Nodes<'_, E, E::Summary> {
 
     // Moves the entry at the slot `last`, the last that is in use, to the free slot before it, and returns the new root.
     pub(crate) fn fill(&mut self, root: Option<usize>, slot: usize, last: usize) -> Option<usize>
-        requires { (t : Shape E) × Sound E.sums E.order self.old.table.now root t × Gap self.old.table.now slot last t }
-        ensures { (t : Shape E) → Sound E.sums E.order self.old.table.now root t → Gap self.old.table.now slot last t → (u : Shape E) × Filled E.sums E.order self.old.table.now last t self.new.table.now result u }
+        requires { (t : Shape E) × Sound E.sums (order_by E.key E.Key.cmp) self.old.table.now root t × Gap self.old.table.now slot last t }
+        ensures { (t : Shape E) → Sound E.sums (order_by E.key E.Key.cmp) self.old.table.now root t → Gap self.old.table.now slot last t → (u : Shape E) × Filled E.sums (order_by E.key E.Key.cmp) self.old.table.now last t self.new.table.now result u }
     {
         if slot < last {
             let moved = self.node(last);

@@ -1,5 +1,6 @@
 // A tree, told by the list of its entries.
 ghost use Rattle.std.specs.Prelude.{◌≡◌, [], length};
+ghost use Rattle.tree.specs.Orders.{order_by};
 ghost use Rattle.tree.specs.Sound.{SoundTree, entries, places};
 
 use crate::entry::Entry;
@@ -17,7 +18,7 @@ pub struct Tree<'t, E, S> {
 impl<'t, E: Entry> Tree<'t, E, E::Summary> {
     /// An empty tree in a table of any contents.
     pub fn new(table: &'t mut [Node<E, E::Summary>]) -> Tree<'t, E, E::Summary>
-        ensures sound { SoundTree E.sums E.order result }
+        ensures sound { SoundTree E.sums (order_by E.key E.Key.cmp) result }
         ensures list { entries result ≡ [] }
         ensures places { places result ≡ length table.old }
     {

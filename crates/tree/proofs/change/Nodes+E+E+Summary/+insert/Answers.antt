@@ -1,5 +1,6 @@
 use Rattle.std.proofs.Common.{arith, refl}
 use Rattle.tree.specs.declared.side.Side.TheVariants.{Left}
+use Rattle.tree.specs.Orders.{order_by}
 use Rattle.tree.proofs.Descends.{opens, fork_goes}
 use Rattle.tree.proofs.Grows.{grown_leaf, grow_down, grow_ready, grow_back, grown_same}
 use Rattle.tree.proofs.change.Nodes+E+E+Summary.+insert.Goals as goal
@@ -7,22 +8,22 @@ use Rattle.tree.proofs.change.Nodes+E+E+Summary.+insert.Goals as goal
 pub insert-near-requires : goal.insert-near-requires
 insert-near-requires g t c κs within =
     let o = opens g.E.Entry.sums c.args.self.now.table.now c.args.root c.requires.0 c.requires.1.fit c.in-Some.at c.in-Some.is c.node-n.result c.node-n.ensures c.in-Some-side_of.side c.fork-top.result c.fork-top.ensures in
-    let d = grow_down g.E.Entry.sums g.E.Entry.order c.args.self.now.table.now c.args.root c.args.slot c.args.entry c.requires.0 c.requires.1 c.requires.2 c.fork-top.result o (fork_goes g.E.Entry.order (g.E.Entry.order.key c.args.entry) c.in-Some.at c.node-n.result c.in-Some-side_of.side c.fork-top.result c.fork-top.ensures (cc)) in
+    let d = grow_down g.E.Entry.sums (order_by g.E.Entry.key g.E.Key.Ord.cmp) g.met.E.Key.Ord.total c.args.self.now.table.now c.args.root c.args.slot c.args.entry c.requires.0 c.requires.1 c.requires.2 c.fork-top.result o (fork_goes (order_by g.E.Entry.key g.E.Key.Ord.cmp) g.met.E.Key.Ord.total (g.E.Entry.key c.args.entry) c.in-Some.at c.node-n.result c.in-Some-side_of.side c.fork-top.result c.fork-top.ensures (cc)) in
     (omega (arith, c.decreases, d.0), (within.0, (within.1.0, (within.1.1, d.1))))
 
 pub balance-requires : goal.balance-requires
 balance-requires g t c =
     let o = opens g.E.Entry.sums c.args.self.now.table.now c.args.root c.requires.0 c.requires.1.fit c.in-Some.at c.in-Some.is c.node-n.result c.node-n.ensures c.in-Some-side_of.side c.fork-top.result c.fork-top.ensures in
-    grow_ready g.E.Entry.sums g.E.Entry.order c.args.self.now.table.now c.args.root c.args.slot c.args.entry c.requires.0 c.requires.1 c.requires.2 c.fork-top.result o (fork_goes g.E.Entry.order (g.E.Entry.order.key c.args.entry) c.in-Some.at c.node-n.result c.in-Some-side_of.side c.fork-top.result c.fork-top.ensures (cc)) _ _ c.insert-near.ensures
+    grow_ready g.E.Entry.sums (order_by g.E.Entry.key g.E.Key.Ord.cmp) g.met.E.Key.Ord.total c.args.self.now.table.now c.args.root c.args.slot c.args.entry c.requires.0 c.requires.1 c.requires.2 c.fork-top.result o (fork_goes (order_by g.E.Entry.key g.E.Key.Ord.cmp) g.met.E.Key.Ord.total (g.E.Entry.key c.args.entry) c.in-Some.at c.node-n.result c.in-Some-side_of.side c.fork-top.result c.fork-top.ensures (cc)) _ _ c.insert-near.ensures
 
 pub returns-in-Some-side_of : goal.returns-in-Some-side_of
 returns-in-Some-side_of g t c x S F =
     let o = opens g.E.Entry.sums c.args.self.now.table.now c.args.root x S.fit c.in-Some.at c.in-Some.is c.node-n.result c.node-n.ensures c.in-Some-side_of.side c.fork-top.result c.fork-top.ensures in
-    grow_back g.E.Entry.sums g.E.Entry.order c.args.self.now.table.now c.args.root c.args.slot c.args.entry x S F c.fork-top.result o (fork_goes g.E.Entry.order (g.E.Entry.order.key c.args.entry) c.in-Some.at c.node-n.result c.in-Some-side_of.side c.fork-top.result c.fork-top.ensures (cc)) _ _ c.insert-near.ensures _ _ c.balance.ensures
+    grow_back g.E.Entry.sums (order_by g.E.Entry.key g.E.Key.Ord.cmp) g.met.E.Key.Ord.total c.args.self.now.table.now c.args.root c.args.slot c.args.entry x S F c.fork-top.result o (fork_goes (order_by g.E.Entry.key g.E.Key.Ord.cmp) g.met.E.Key.Ord.total (g.E.Entry.key c.args.entry) c.in-Some.at c.node-n.result c.in-Some-side_of.side c.fork-top.result c.fork-top.ensures (cc)) _ _ c.insert-near.ensures _ _ c.balance.ensures
 
 pub returns-in-None : goal.returns-in-None
 returns-in-None g t c x S F =
-    absurd (grown_same g.E.Entry.sums g.E.Entry.order c.args.self.now.table.now c.args.root c.args.slot c.args.entry x S F c.in-Some.at c.node-n.result (opens g.E.Entry.sums c.args.self.now.table.now c.args.root x S.fit c.in-Some.at c.in-Some.is c.node-n.result c.node-n.ensures Left _ refl) (cc))
+    absurd (grown_same g.E.Entry.sums (order_by g.E.Entry.key g.E.Key.Ord.cmp) g.met.E.Key.Ord.total c.args.self.now.table.now c.args.root c.args.slot c.args.entry x S F c.in-Some.at c.node-n.result (opens g.E.Entry.sums c.args.self.now.table.now c.args.root x S.fit c.in-Some.at c.in-Some.is c.node-n.result c.node-n.ensures Left _ refl) (cc))
 
 pub returns-in_default : goal.returns-in_default
-returns-in_default g t c x S F = grown_leaf g.E.Entry.sums g.E.Entry.order _ _ c.args.root _ _ x c.in_default.is S F c.put.ensures
+returns-in_default g t c x S F = grown_leaf g.E.Entry.sums (order_by g.E.Entry.key g.E.Key.Ord.cmp) g.met.E.Key.Ord.total _ _ c.args.root _ _ x c.in_default.is S F c.put.ensures

@@ -1,4 +1,5 @@
 use Rattle.std.proofs.Common.{refl, arith}
+use Rattle.tree.specs.Orders.{order_by}
 use Rattle.tree.specs.Sound.{table_of, shape_of, entries, places}
 use Rattle.tree.proofs.Empty.{leaf_sound}
 use Rattle.tree.proofs.tree.Tree+E+E+Summary.new.Goals as goal
@@ -6,7 +7,7 @@ use Rattle.tree.proofs.tree.Tree+E+E+Summary.new.Goals as goal
 pub returns-clause-sound : goal.returns-clause-sound
 unfolding table_of shape_of entries places
 returns-clause-sound g c = record {
-  sound = leaf_sound g.E.Entry.sums g.E.Entry.order c.args.table.now;
+  sound = leaf_sound g.E.Entry.sums (order_by g.E.Entry.key g.E.Key.Ord.cmp) c.args.table.now;
   balanced = tt;
   used = λ k i. absurd i;
   counted = refl;
