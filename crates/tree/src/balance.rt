@@ -7,7 +7,7 @@ use crate::entry::Entry;
 use crate::fork::Fork;
 use crate::nodes::Nodes;
 
-impl<E: Entry> Nodes<'_, E, E::Summary> {
+impl<E: Entry> Nodes<'_, E> {
     // Joins two trees, the near one two higher than the other. Its outer subtree comes up with its root or, where the
     // inner one is higher, that one's root comes up.
     fn rotate(&mut self, top: Fork<E>) -> usize

@@ -19,7 +19,7 @@ pub(crate) struct Taken<E> {
     pub(crate) entry: E,
 }
 
-impl<E: Entry> Nodes<'_, E, E::Summary> {
+impl<E: Entry> Nodes<'_, E> {
     // Puts an entry whose key is not there into the tree at `root`, in a free slot, and returns the new root.
     pub(crate) fn insert(&mut self, root: Option<usize>, slot: usize, entry: E) -> usize
         requires { (t : Shape E) × Sound E.sums (order_by E.key E.Key.cmp) self.old.table.now root t × Free (order_by E.key E.Key.cmp) self.old.table.now slot entry t }

@@ -8,6 +8,5 @@ pub mod entry;
 mod fork;
 pub mod node;
 mod nodes;
-mod search;
 mod side;
 pub mod tree;

@@ -8,6 +8,7 @@ use crate::side::Side;
 
 /// A record of a table: an entry, the links to its subtrees, and the height and the summary of the tree below it.
 // A link is the index of a record: no heap may be used, so a node cannot own its subtrees, and the table is lent.
+// The summary's type is a parameter, since a record is copied, and what has an associated type in it is not.
 #[derive(Clone, Copy)]
 pub struct Node<E, S> {
     pub(crate) entry: E,

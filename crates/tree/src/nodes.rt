@@ -8,11 +8,11 @@ use crate::fork::Fork;
 use crate::node::Node;
 
 #[derive(Drop)]
-pub(crate) struct Nodes<'t, E, S> {
-    pub(crate) table: &'t mut [Node<E, S>],
+pub(crate) struct Nodes<'t, E: Entry> {
+    pub(crate) table: &'t mut [Node<E, E::Summary>],
 }
 
-impl<E: Entry> Nodes<'_, E, E::Summary> {
+impl<E: Entry> Nodes<'_, E> {
     pub(crate) fn len(&self) -> usize
         ensures { result ≡ length self.now.table.now }
     {

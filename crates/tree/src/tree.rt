@@ -9,7 +9,7 @@ use std::marker::Model;
 /// An AVL tree of entries in a lent table. The entries stand in its first `count` records, so no record is ever lost.
 #[derive(Drop)]
 pub struct Tree<'t, E: Entry> {
-    nodes: Nodes<'t, E, E::Summary>,
+    nodes: Nodes<'t, E>,
     root: Option<usize>,
     count: usize,
 }

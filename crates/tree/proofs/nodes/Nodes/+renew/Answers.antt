@@ -3,7 +3,7 @@ use Rattle.tree.specs.declared.side.Side.TheVariants.{Left}
 use Rattle.tree.specs.Orders.{order_by}
 use Rattle.tree.proofs.Descends.{opens, fork_goes}
 use Rattle.tree.proofs.Renews.{renew_down, renew_ready, renew_back, renew_here}
-use Rattle.tree.proofs.change.Nodes+E+E+Summary.+renew.Goals as goal
+use Rattle.tree.proofs.nodes.Nodes.+renew.Goals as goal
 
 pub renew-near-requires : goal.renew-near-requires
 renew-near-requires g t c κs within =

@@ -1,5 +1,5 @@
 use Rattle.tree.proofs.Shrinks.{glue_down, glue_ready, glue_back, glue_end}
-use Rattle.tree.proofs.change.Nodes+E+E+Summary.glue.Goals as goal
+use Rattle.tree.proofs.nodes.Nodes.glue.Goals as goal
 
 pub pop_first-first-requires : goal.pop_first-first-requires
 pop_first-first-requires g c = glue_down g.E.Entry.sums c.args.self.now.table.now c.args.left c.args.right c.requires.0 c.requires.1 c.requires.2 c.in-Some.right c.in-Some.is

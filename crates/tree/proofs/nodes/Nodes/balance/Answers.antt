@@ -1,6 +1,6 @@
 use Rattle.std.proofs.Common.{arith}
 use Rattle.tree.proofs.Turns.{joins_here, ready_flip, joins_flip, ready_heights}
-use Rattle.tree.proofs.balance.Nodes+E+E+Summary.balance.Goals as goal
+use Rattle.tree.proofs.nodes.Nodes.balance.Goals as goal
 
 pub rotate-requires : goal.rotate-requires
 rotate-requires g c =

@@ -3,7 +3,7 @@ use Rattle.tree.specs.Shape.{row, ents, stored_height}
 use Rattle.tree.specs.Sides.{left_of, right_of}
 use Rattle.tree.proofs.Mirrors.{put_heights}
 use Rattle.tree.proofs.Trees.{node_sums}
-use Rattle.tree.proofs.nodes.Nodes+E+E+Summary.put.Goals as goal
+use Rattle.tree.proofs.nodes.Nodes.put.Goals as goal
 
 pub returns-then-top-len : goal.returns-then-top-len
 returns-then-top-len g c = record {

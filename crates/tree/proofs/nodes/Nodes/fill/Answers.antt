@@ -1,6 +1,6 @@
 use Rattle.tree.specs.Orders.{order_by}
 use Rattle.tree.proofs.Renews.{fill_down, fill_moved, fill_stays}
-use Rattle.tree.proofs.change.Nodes+E+E+Summary.fill.Goals as goal
+use Rattle.tree.proofs.nodes.Nodes.fill.Goals as goal
 
 pub renew-requires : goal.renew-requires
 renew-requires g c = fill_down g.E.Entry.sums (order_by g.E.Entry.key g.E.Key.Ord.cmp) g.met.E.Key.Ord.total c.args.self.now.table.now c.args.root c.args.slot c.args.last c.requires.0 c.requires.1 c.requires.2 c.if-slot-last.true c.node-moved.result c.node-moved.ensures

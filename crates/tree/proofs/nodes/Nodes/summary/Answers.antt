@@ -1,7 +1,7 @@
 use Rattle.std.proofs.Common.{sym, ◌∙◌, subst}
 use Rattle.tree.specs.Shape.{Shape, row, ents}
 use Rattle.tree.proofs.Trees.{stored_sums, stored_none}
-use Rattle.tree.proofs.nodes.Nodes+E+E+Summary.summary.Goals as goal
+use Rattle.tree.proofs.nodes.Nodes.summary.Goals as goal
 
 pub returns-in-Some : goal.returns-in-Some
 returns-in-Some g c t s = stored_sums g.E.Entry.sums c.args.self.now.table.now c.args.link c.in-Some.n t (sym c.in-Some.is ∙ c.linked.ensures) s

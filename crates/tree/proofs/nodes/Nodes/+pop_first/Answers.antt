@@ -2,7 +2,7 @@ use Rattle.std.proofs.Common.{arith, refl}
 use Rattle.tree.specs.declared.side.Side.TheVariants.{Left}
 use Rattle.tree.proofs.Descends.{opens}
 use Rattle.tree.proofs.Shrinks.{pop_down, pop_ready, pop_back, pop_end}
-use Rattle.tree.proofs.change.Nodes+E+E+Summary.+pop_first.Goals as goal
+use Rattle.tree.proofs.nodes.Nodes.+pop_first.Goals as goal
 
 pub pop_first-first-requires : goal.pop_first-first-requires
 pop_first-first-requires g t c κs within =

@@ -1,6 +1,6 @@
 use Rattle.std.proofs.Common.{arith}
 use Rattle.tree.proofs.Turns.{rotated_once, rotated_twice}
-use Rattle.tree.proofs.balance.Nodes+E+E+Summary.rotate.Goals as goal
+use Rattle.tree.proofs.nodes.Nodes.rotate.Goals as goal
 
 pub returns-then-height : goal.returns-then-height
 returns-then-height g c a b R high =

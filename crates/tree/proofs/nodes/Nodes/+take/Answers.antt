@@ -3,7 +3,7 @@ use Rattle.tree.specs.declared.side.Side.TheVariants.{Left}
 use Rattle.tree.specs.Orders.{order_by}
 use Rattle.tree.proofs.Descends.{opens, fork_goes}
 use Rattle.tree.proofs.Shrinks.{take_down, take_ready, take_back, take_pair, take_here}
-use Rattle.tree.proofs.change.Nodes+E+E+Summary.+take.Goals as goal
+use Rattle.tree.proofs.nodes.Nodes.+take.Goals as goal
 
 pub take-out-requires : goal.take-out-requires
 take-out-requires g t c κs within =

@@ -3,7 +3,7 @@ use Rattle.tree.specs.declared.side.Side.TheVariants.{Left}
 use Rattle.tree.specs.Orders.{order_by}
 use Rattle.tree.proofs.Descends.{opens, fork_goes}
 use Rattle.tree.proofs.Grows.{grown_leaf, grow_down, grow_ready, grow_back, grown_same}
-use Rattle.tree.proofs.change.Nodes+E+E+Summary.+insert.Goals as goal
+use Rattle.tree.proofs.nodes.Nodes.+insert.Goals as goal
 
 pub insert-near-requires : goal.insert-near-requires
 insert-near-requires g t c κs within =
