@@ -6,7 +6,8 @@ use Rattle.tree.specs.declared.node.Node.{Node}
 use Rattle.tree.specs.declared.side.Side.TheVariants.{Left}
 use Rattle.tree.specs.Changes.{Changed, Free}
 use Rattle.tree.specs.Joins.{Putted, Ready, Joins}
-use Rattle.tree.specs.Lists.{placed, first_of}
+use Rattle.std.specs.List.{find}
+use Rattle.tree.specs.Lists.{placed}
 use Rattle.tree.specs.Orders.{Order, past, at_key, Rising}
 use Rattle.tree.specs.Shape.{Shape, leaf, node, over, row, by_entry, In, Distinct, stored_height}
 use Rattle.tree.specs.Sides.{fork_of, between, side_of}
@@ -57,7 +58,7 @@ module _ {E K Z : Type 0} (M : Z → List E → Type 0) (O : Order E K) (L : IsT
         let f = fork_of at Left n in
         let r : Rising (by_entry O) (row o.a ++ ((at, n.entry) ∷ row o.b)) = rises M O L xs root t S f o in
         let q = side_same O (O.key e) (O.key n.entry) h in
-        some_none (at, n.entry) (sym (first_here (at_key (by_entry O) (O.key e)) (row o.a) (at, n.entry) (row o.b) (no_left (by_entry O) L (O.key e) (row o.a) (at, n.entry) (row o.b) r q) (same_at (by_entry O) (O.key e) (at, n.entry) q)) ∙ sym (ap (first_of (at_key (by_entry O) (O.key e))) (opens_row M xs root t S.fit f o)) ∙ F.absent)
+        some_none (at, n.entry) (sym (first_here (at_key (by_entry O) (O.key e)) (row o.a) (at, n.entry) (row o.b) (no_left (by_entry O) L (O.key e) (row o.a) (at, n.entry) (row o.b) r q) (same_at (by_entry O) (O.key e) (at, n.entry) q)) ∙ sym (ap (find (at_key (by_entry O) (O.key e))) (opens_row M xs root t S.fit f o)) ∙ F.absent)
 
     module _ (f : Fork E) (o : Parted M xs f t) (g : Goes O f.side (O.key e) (O.key f.entry)) where
       none_far : No (at_key (by_entry O) (O.key e)) (row o.b)
@@ -70,7 +71,7 @@ module _ {E K Z : Type 0} (M : Z → List E → Type 0) (O : Order E K) (L : IsT
           record {
             within = F.within;
             new = λ h. F.new (subst (In slot) (sym w) (in_near f.side slot (row o.a) (f.at, f.entry) (row o.b) h));
-            absent = sym (first_between P f.side (row o.a) (f.at, f.entry) (row o.b) (goes_not (by_entry O) L f.side (O.key e) (f.at, f.entry) g) none_far) ∙ sym (ap (first_of P) w) ∙ F.absent;
+            absent = sym (first_between P f.side (row o.a) (f.at, f.entry) (row o.b) (goes_not (by_entry O) L f.side (O.key e) (f.at, f.entry) g) none_far) ∙ sym (ap (find P) w) ∙ F.absent;
           }
 
       -- what the call for the near side asks

@@ -1,6 +1,5 @@
 -- The steps of a writing of one entry in place of another, and of a move to a free slot.
 use Rattle.std.proofs.Common.{◌≡◌, ℕ, ◌<◌, ◌≤◌, ◌≢◌, false, List, [], ◌∷◌, ◌++◌, length, get_or, Some, None, Option, unwrap_or, sym, refl, ap, ◌∙◌, subst, inl, inr, arith}
-use Rattle.std.proofs.ByRecursion.{All-append}
 use Rattle.std.proofs.lemmas.List.{get_or_default}
 use Rattle.std.specs.List.{AllByRecursion}
 use Rattle.std.proofs.lemmas.Cmp.{tied_itself}
@@ -10,7 +9,7 @@ use Rattle.tree.specs.declared.node.Node.{Node}
 use Rattle.tree.specs.declared.side.Side.TheVariants.{Left}
 use Rattle.tree.specs.Changes.{Changed, Vacant, reseated, Gap, Filled}
 use Rattle.tree.specs.Joins.{Putted, Ready, Joins}
-use Rattle.tree.specs.Lists.{first_of}
+use Rattle.std.specs.List.{find}
 use Rattle.tree.specs.Orders.{Order, at_key, Rising}
 use Rattle.tree.specs.Shape.{Shape, leaf, node, over, tall, row, ents, by_entry, In, Distinct, record_over, Linked, stored_height}
 use Rattle.tree.specs.Sides.{fork_of, between, side_of}
@@ -19,7 +18,7 @@ use Rattle.tree.proofs.Descends.{onto, opens_row, opens_level, opens_tall, opens
 use Rattle.tree.proofs.Heights.{low, at_slot}
 use Rattle.tree.proofs.Kept.{unused_part, seat_within, seat_new, out_in, out_new, swap_once, swap_rising, swap_row}
 use Rattle.tree.proofs.Mirrors.{row_over, in_near, Parted, put_over}
-use Rattle.tree.proofs.Ordered.{No, Goes, found, first_between, edited_between, side_same, goes_not, no_far, same_at, first_here, edited_here, no_left, no_right, all_right}
+use Rattle.tree.proofs.Ordered.{No, Goes, found, first_between, edited_between, side_same, goes_not, no_far, same_at, first_here, edited_here, no_left, no_right, all_append, all_right}
 use Rattle.tree.proofs.Slots.{parts, in_left, in_right, in_drop}
 use Rattle.tree.proofs.Trees.{ents_node}
 
@@ -41,7 +40,7 @@ module _ {E K Z : Type 0} (M : Z → List E → Type 0) (O : Order E K) (L : IsT
           let w = opens_row M xs root t S.fit f o in
           let P = at_key (by_entry O) (O.key e) in
           record {
-            there = sym (first_between P f.side (row o.a) (f.at, f.entry) (row o.b) not_here none_far) ∙ sym (ap (first_of P) w) ∙ V.there;
+            there = sym (first_between P f.side (row o.a) (f.at, f.entry) (row o.b) not_here none_far) ∙ sym (ap (find P) w) ∙ V.there;
             unused = unused_part xs to (row t) (row o.a) (λ k i. subst (In k) (sym w) (in_near f.side k (row o.a) (f.at, f.entry) (row o.b) i)) V.unused;
           }
 
@@ -114,7 +113,7 @@ module _ {E K Z : Type 0} (M : Z → List E → Type 0) (O : Order E K) (L : IsT
   entries_stored xs leaf h = tt
   entries_stored xs (node l s e r) h =
       let R = h.0 in
-      All-append (λ q. (m : Node E Z) → m ≡ get_or xs q.0 m → m.entry ≡ q.1) (row l) ((s, e) ∷ row r) (entries_stored xs l h.1)
+      all_append (λ q. (m : Node E Z) → m ≡ get_or xs q.0 m → m.entry ≡ q.1) (row l) ((s, e) ∷ row r) (entries_stored xs l h.1)
       (λ m read. ap (λ (x : Node E Z). x.entry) (read ∙ get_or_default xs s m (record_over e l r R.sum) R.within ∙ sym R.is), entries_stored xs r h.2)
 
   module _ (xs : List (Node E Z)) (root : Option ℕ) (slot last : ℕ) (t : Shape E) (S : Sound M O xs root t) (G : Gap xs slot last t) where
@@ -134,13 +133,13 @@ module _ {E K Z : Type 0} (M : Z → List E → Type 0) (O : Order E K) (L : IsT
     )
 
     module _ (lt : slot < last) (m : Node E Z) (read : m ≡ get_or xs last m) where
-      last_there : first_of (at_key (by_entry O) (O.key m.entry)) (row t) ≡ Some (last, m.entry)
+      last_there : find (at_key (by_entry O) (O.key m.entry)) (row t) ≡ Some (last, m.entry)
       last_there = elim (at_slot last (row t)) [
         | inl c ↦
             let f : m.entry ≡ c.1 = (all_right (λ q. (x : Node E Z) → x ≡ get_or xs q.0 x → x.entry ≡ q.1) c.0 ((last, c.1) ∷ c.2) (subst (AllByRecursion (λ q. (x : Node E Z) → x ≡ get_or xs q.0 x → x.entry ≡ q.1)) c.3 (entries_stored xs t S.fit.stands.1))).0 m read in
             let is : row t ≡ c.0 ++ ((last, m.entry) ∷ c.2) = c.3 ∙ ap (λ (x : E). c.0 ++ ((last, x) ∷ c.2)) (sym f) in
             let r : Rising (by_entry O) (c.0 ++ ((last, m.entry) ∷ c.2)) = subst (Rising (by_entry O)) is S.rising in
-            ap (first_of (at_key (by_entry O) (O.key m.entry))) is ∙ first_here (at_key (by_entry O) (O.key m.entry)) c.0 (last, m.entry) c.2 (no_left (by_entry O) L (O.key m.entry) c.0 (last, m.entry) c.2 r (tied_itself L (O.key m.entry))) (same_at (by_entry O) (O.key m.entry) (last, m.entry) (tied_itself L (O.key m.entry)))
+            ap (find (at_key (by_entry O) (O.key m.entry))) is ∙ first_here (at_key (by_entry O) (O.key m.entry)) c.0 (last, m.entry) c.2 (no_left (by_entry O) L (O.key m.entry) c.0 (last, m.entry) c.2 r (tied_itself L (O.key m.entry))) (same_at (by_entry O) (O.key m.entry) (last, m.entry) (tied_itself L (O.key m.entry)))
         | inr gone ↦ absurd (gone (G.there lt))
       ]
 

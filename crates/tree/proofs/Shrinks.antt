@@ -1,20 +1,21 @@
 -- The steps of a removal.
-use Rattle.std.proofs.Common.{◌≡◌, ℕ, ◌<◌, Bool, false, List, [], ◌∷◌, ◌++◌, Some, None, Option, sym, refl, ap, ◌∙◌, subst, inl, inr, append-nil, arith}
+use Rattle.std.proofs.Common.{◌≡◌, ℕ, ◌<◌, false, List, [], ◌∷◌, ◌++◌, Some, None, Option, sym, refl, ap, ◌∙◌, subst, inl, inr, append-nil, arith}
 use Rattle.std.specs.Cmp.{IsTotalOrder}
 use Rattle.tree.specs.declared.fork.Fork.{Fork}
 use Rattle.tree.specs.declared.node.Node.{Node}
 use Rattle.tree.specs.declared.side.Side.TheVariants.{Left, Right}
 use Rattle.tree.specs.Changes.{Changed, Pair, Glued}
 use Rattle.tree.specs.Joins.{Ready, Joins}
-use Rattle.tree.specs.Lists.{without, first_of}
+use Rattle.std.specs.List.{find}
+use Rattle.tree.specs.Lists.{without}
 use Rattle.tree.specs.Orders.{Order, at_key}
-use Rattle.tree.specs.Shape.{Shape, over, tall, row, by_entry, In, Distinct, Stands, stored_height}
+use Rattle.tree.specs.Shape.{Shape, over, tall, row, by_entry, In, Distinct, stored_height}
 use Rattle.tree.specs.Sides.{fork_of, between, side_of}
 use Rattle.tree.specs.Sound.{Fit, Sound}
 use Rattle.tree.proofs.Descends.{onto, ready_again, joined_heights, opens_row, opens_level, opens_tall, opens_once, fit_near, falls, ready_back, changed_back, rises, sound_near}
 use Rattle.tree.proofs.Kept.{out_row, out_once}
 use Rattle.tree.proofs.Mirrors.{row_over, Parted}
-use Rattle.tree.proofs.Ordered.{No, Goes, first_between, edited_between, side_same, goes_not, no_far, same_at, first_here, edited_here, no_left, no_right, some_none, some_same, found}
+use Rattle.tree.proofs.Ordered.{No, Goes, first_between, edited_between, side_same, goes_not, no_far, same_at, first_here, edited_here, no_left, no_right, some_same, found}
 use Rattle.tree.proofs.Slots.{in_right, distinct_out, distinct_right}
 use Rattle.tree.proofs.Trees.{none_leaf, in_within, frame_then, frame_wider, frame_none}
 
@@ -114,16 +115,12 @@ module _ {E Z : Type 0} (M : Z → List E → Type 0) (xs : List (Node E Z)) (le
             },
           )
 
--- a tree in which something is found stands at a slot
-pub there_not : {E Z : Type 0} (M : Z → List E → Type 0) (xs : List (Node E Z)) (t : Shape E) (Q : ℕ × E → Bool) (p : ℕ × E) → Stands M xs None t → first_of Q (row t) ≡ Some p → ⊥
-there_not M xs t Q p s h = some_none p (sym h ∙ ap (λ (x : Shape _). first_of Q (row x)) (none_leaf M xs t s))
-
 module _ {E K Z : Type 0} (M : Z → List E → Type 0) (O : Order E K) (L : IsTotalOrder O.cmp) (k : K) where
   -- what a removal gives
   abbrev pub Takes : List (Node E Z) → Shape E → ℕ × E → List (Node E Z) → Option ℕ → ℕ × E → Type 0
   Takes xs t p ys top q = (u : Shape E) × Changed M xs t ys top u × (row u ≡ without (at_key (by_entry O) k) (row t)) × (p ≡ q)
 
-  module _ (xs : List (Node E Z)) (root : Option ℕ) (t : Shape E) (p : ℕ × E) (S : Sound M O xs root t) (here : first_of (at_key (by_entry O) k) (row t) ≡ Some p) where
+  module _ (xs : List (Node E Z)) (root : Option ℕ) (t : Shape E) (p : ℕ × E) (S : Sound M O xs root t) (here : find (at_key (by_entry O) k) (row t) ≡ Some p) where
     module _ (f : Fork E) (o : Parted M xs f t) (g : Goes O f.side k (O.key f.entry)) where
       none_far : No (at_key (by_entry O) k) (row o.b)
       none_far = no_far (by_entry O) L f.side k (row o.a) (f.at, f.entry) (row o.b) (rises M O L xs root t S f o) g
@@ -131,15 +128,15 @@ module _ {E K Z : Type 0} (M : Z → List E → Type 0) (O : Order E K) (L : IsT
       not_here : at_key (by_entry O) k (f.at, f.entry) ≡ false
       not_here = goes_not (by_entry O) L f.side k (f.at, f.entry) g
 
-      near_there : first_of (at_key (by_entry O) k) (row o.a) ≡ Some p
-      near_there = sym (first_between (at_key (by_entry O) k) f.side (row o.a) (f.at, f.entry) (row o.b) not_here none_far) ∙ sym (ap (first_of (at_key (by_entry O) k)) (opens_row M xs root t S.fit f o)) ∙ here
+      near_there : find (at_key (by_entry O) k) (row o.a) ≡ Some p
+      near_there = sym (first_between (at_key (by_entry O) k) f.side (row o.a) (f.at, f.entry) (row o.b) not_here none_far) ∙ sym (ap (find (at_key (by_entry O) k)) (opens_row M xs root t S.fit f o)) ∙ here
 
       -- what the call for the near side asks
-      pub take_down : (stored_height xs f.near < stored_height xs root) × ((a : Shape E) × (q : ℕ × E) × Sound M O xs f.near a × (first_of (at_key (by_entry O) k) (row a) ≡ Some q))
+      pub take_down : (stored_height xs f.near < stored_height xs root) × ((a : Shape E) × (q : ℕ × E) × Sound M O xs f.near a × (find (at_key (by_entry O) k) (row a) ≡ Some q))
       take_down = (falls M xs root t S.fit f o, (o.a, p, sound_near M O L xs root t S f o, near_there))
 
       -- after that call
-      module _ (ys : List (Node E Z)) (near : Option ℕ) (w : ℕ × E) (ih : (a : Shape E) (q : ℕ × E) → Sound M O xs f.near a → first_of (at_key (by_entry O) k) (row a) ≡ Some q → Takes xs a q ys near w) where
+      module _ (ys : List (Node E Z)) (near : Option ℕ) (w : ℕ × E) (ih : (a : Shape E) (q : ℕ × E) → Sound M O xs f.near a → find (at_key (by_entry O) k) (row a) ≡ Some q → Takes xs a q ys near w) where
         took : Takes xs o.a p ys near w
         took = ih o.a p (sound_near M O L xs root t S f o) near_there
 
@@ -201,5 +198,5 @@ module _ {E K Z : Type 0} (M : Z → List E → Type 0) (O : Order E K) (L : IsT
             j.0,
             record { stands = j.1.stands; avl = j.1.avl; frame = j.1.frame; lower = omega arith; taller = omega arith },
             j.1.order ∙ sym (ap (without P) w ∙ edited_here P (λ x. []) (row o.a) (at, n.entry) (row o.b) nl here_at nr),
-            some_same p (at, n.entry) (sym here ∙ ap (first_of P) w ∙ first_here P (row o.a) (at, n.entry) (row o.b) nl here_at),
+            some_same p (at, n.entry) (sym here ∙ ap (find P) w ∙ first_here P (row o.a) (at, n.entry) (row o.b) nl here_at),
           )

@@ -52,10 +52,6 @@ module _ {E Z : Type 0} (M : Z → List E → Type 0) where
   stands_within xs k leaf s = absurd (none-some k (sym s.0))
   stands_within xs k (node l a e r) s = omega (arith, same_Some k a s.0, s.1.0.within)
 
-  pub within_tall : (xs : List (Node E Z)) (k : ℕ) (t : Shape E) → Stands M xs (Some k) t → 0 < tall t
-  within_tall xs k leaf s = absurd (none-some k (sym s.0))
-  within_tall xs k (node l a e r) s = omega arith
-
   -- at no slot there is an empty tree
   pub none_leaf : (xs : List (Node E Z)) (t : Shape E) → Stands M xs None t → t ≡ leaf
   none_leaf xs leaf s = refl

@@ -1,9 +1,10 @@
 -- What the changes of a tree ask and give.
 use Rattle.std.specs.Prelude.{◌≡◌, ℕ, ◌+◌, ◌<◌, ◌≤◌, max, List, [], ◌∷◌, ◌++◌, length, Some, None, Option}
+use Rattle.std.specs.List.{find}
 use Rattle.std.specs.Option.{unwrap_or}
 use Rattle.tree.specs.declared.node.Node.{Node}
 use Rattle.tree.specs.Joins.{Frame}
-use Rattle.tree.specs.Lists.{edited, first_of}
+use Rattle.tree.specs.Lists.{edited}
 use Rattle.tree.specs.Orders.{Order, at_key}
 use Rattle.tree.specs.Shape.{Shape, tall, row, ents, by_entry, In, Distinct, Balanced, Stands}
 use Rattle.tree.specs.Sound.{Sound}
@@ -20,7 +21,7 @@ pub record Changed {E Z : Type 0} (M : Z → List E → Type 0) (xs : List (Node
 pub record Free {E K Z : Type 0} (O : Order E K) (xs : List (Node E Z)) (slot : ℕ) (e : E) (t : Shape E) : Type 0 where
   pub within : slot < length xs
   pub new : In slot (row t) → ⊥
-  pub absent : first_of (at_key (by_entry O) (O.key e)) (row t) ≡ None
+  pub absent : find (at_key (by_entry O) (O.key e)) (row t) ≡ None
 
 -- a slot that is given is one of the table's, and not in use
 abbrev pub Unused : {E Z : Type 0} → List (Node E Z) → Option ℕ → List (ℕ × E) → Type 0
@@ -29,7 +30,7 @@ Unused xs None ps = Unit {0}
 
 -- p has the key of e, and the slot that is given for e is not in use
 pub record Vacant {E K Z : Type 0} (O : Order E K) (xs : List (Node E Z)) (to : Option ℕ) (e : E) (p : ℕ × E) (t : Shape E) : Type 0 where
-  pub there : first_of (at_key (by_entry O) (O.key e)) (row t) ≡ Some p
+  pub there : find (at_key (by_entry O) (O.key e)) (row t) ≡ Some p
   pub unused : Unused xs to (row t)
 
 -- e in place of the entry of its key, in the slot that is given or else in that one's

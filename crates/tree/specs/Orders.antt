@@ -1,7 +1,7 @@
 -- Entries in the order of their keys. Assumes nothing.
-use Rattle.std.specs.Prelude.{◌≡◌, Bool, true, List, [], ◌∷◌}
-use Rattle.std.specs.List.{AllByRecursion}
-use Rattle.std.specs.Ordering.{is_lt, is_eq}
+use Rattle.std.specs.Prelude.{Bool, List}
+use Rattle.std.specs.List.Sorted.{IsStrictlySortedBy}
+use Rattle.std.specs.Ordering.{is_lt, is_eq, on}
 use Rattle.std.specs.declared.cmp.Ordering.{Ordering}
 
 -- the key of each entry, and how two keys compare
@@ -22,5 +22,4 @@ at_key O k e = is_eq (O.cmp k (O.key e))
 
 -- strictly rising: each entry stands before all later ones
 abbrev pub Rising : {A K : Type 0} → Order A K → List A → Type 0
-Rising O [] = Unit {0}
-Rising O (e ∷ es) = AllByRecursion (λ f. past O (O.key e) f ≡ true) es × Rising O es
+Rising O es = IsStrictlySortedBy (on O.key O.cmp) es

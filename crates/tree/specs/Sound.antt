@@ -1,5 +1,6 @@
 -- Sound trees, and their entries as read off the table. Assumes nothing.
-use Rattle.std.specs.Prelude.{◌≡◌, ℕ, zero, suc, ◌<◌, ◌≤◌, List, [], ◌∷◌, length, Some, None, Option}
+use Rattle.std.specs.Prelude.{◌≡◌, ℕ, zero, suc, ◌<◌, ◌≤◌, List, length, slice_get, Some, None, Option}
+use Rattle.std.specs.Option.{option_map, unwrap_or}
 use Rattle.tree.specs.declared.node.Node.{Node}
 use Rattle.tree.specs.Orders.{Order, Rising}
 use Rattle.tree.specs.Shape.{Shape, leaf, node, link, tall, row, ents, by_entry, In, Distinct, Balanced, Stands, stored_height}
@@ -15,17 +16,11 @@ pub record Sound {E K Z : Type 0} (M : Z → List E → Type 0) (O : Order E K) 
   pub fit : Fit M xs root t
   pub rising : Rising (by_entry O) (row t)
 
--- what f makes of the record at k, or a leaf where there is none
-abbrev pub fetch : {E Z : Type 0} → List (Node E Z) → ℕ → (Node E Z → Shape E) → Shape E
-fetch [] k f = leaf
-fetch (n ∷ xs) zero f = f n
-fetch (n ∷ xs) (suc k) f = fetch xs k f
-
 -- the tree at a link, followed so many levels down
 abbrev pub followed : {E Z : Type 0} → ℕ → List (Node E Z) → Option ℕ → Shape E
 followed zero xs k = leaf
 followed (suc levels) xs None = leaf
-followed (suc levels) xs (Some k) = fetch xs k (λ n. node (followed levels xs n.left) k n.entry (followed levels xs n.right))
+followed (suc levels) xs (Some k) = unwrap_or (option_map (λ n. node (followed levels xs n.left) k n.entry (followed levels xs n.right)) (slice_get xs k)) leaf
 
 -- the tree at a link, followed as many levels down as the height that is stored there
 abbrev pub shape_at : {E Z : Type 0} → List (Node E Z) → Option ℕ → Shape E

@@ -1,7 +1,8 @@
 // Putting entries in, taking them out, and writing one in another's place.
 ghost use Rattle.std.specs.Prelude.{◌≡◌, ℕ, ◌<◌, ◌∷◌, ◌++◌};
+ghost use Rattle.std.specs.List.{find};
 ghost use Rattle.tree.specs.Orders.{order_by, at_key};
-ghost use Rattle.tree.specs.Lists.{placed, without, first_of};
+ghost use Rattle.tree.specs.Lists.{placed, without};
 ghost use Rattle.tree.specs.Shape.{Shape, row, by_entry};
 ghost use Rattle.tree.specs.Sound.{Fit, Sound};
 ghost use Rattle.tree.specs.Changes.{Changed, Free, Vacant, reseated, Pair, Glued, Gap, Filled};
@@ -98,8 +99,8 @@ impl<E: Entry> Nodes<'_, E> {
 
     // Takes the entry of a key out of a tree that has it.
     pub(crate) fn take(&mut self, root: Option<usize>, key: E::Key) -> Taken<E>
-        requires { (t : Shape E) × (p : ℕ × E) × Sound E.sums (order_by E.key E.Key.cmp) self.old.table.now root t × (first_of (at_key (by_entry (order_by E.key E.Key.cmp)) key) (row t) ≡ Some p) }
-        ensures { (t : Shape E) (p : ℕ × E) → Sound E.sums (order_by E.key E.Key.cmp) self.old.table.now root t → first_of (at_key (by_entry (order_by E.key E.Key.cmp)) key) (row t) ≡ Some p → (u : Shape E) × Changed E.sums self.old.table.now t self.new.table.now result.root u × (row u ≡ without (at_key (by_entry (order_by E.key E.Key.cmp)) key) (row t)) × (p ≡ (result.slot, result.entry)) }
+        requires { (t : Shape E) × (p : ℕ × E) × Sound E.sums (order_by E.key E.Key.cmp) self.old.table.now root t × (find (at_key (by_entry (order_by E.key E.Key.cmp)) key) (row t) ≡ Some p) }
+        ensures { (t : Shape E) (p : ℕ × E) → Sound E.sums (order_by E.key E.Key.cmp) self.old.table.now root t → find (at_key (by_entry (order_by E.key E.Key.cmp)) key) (row t) ≡ Some p → (u : Shape E) × Changed E.sums self.old.table.now t self.new.table.now result.root u × (row u ≡ without (at_key (by_entry (order_by E.key E.Key.cmp)) key) (row t)) × (p ≡ (result.slot, result.entry)) }
     {
         let Some(at) = root else { unreachable!() };
         let n = self.node(at);

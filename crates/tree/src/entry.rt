@@ -1,6 +1,6 @@
 // What a tree holds, and tests of it.
 ghost use Rattle.std.specs.Prelude.{◌≡◌, Bool, List, [], ◌∷◌, ◌++◌};
-ghost use Rattle.tree.specs.Lists.{any_of};
+ghost use Rattle.std.specs.List.{list_any};
 
 /// An entry of a tree: it has a key, the tree stands in the order of the keys, and each subtree has a summary.
 pub trait Entry: Copy {
@@ -43,5 +43,5 @@ pub trait Probe<E: Entry> {
 
     /// Whether some entry passes of any list that the summary is right for.
     fn some_pass(&self, summary: E::Summary) -> bool
-        ensures { (es : List E) → E.Entry.sums summary es → result ≡ any_of (passes self.now) es };
+        ensures { (es : List E) → E.Entry.sums summary es → result ≡ list_any (passes self.now) es };
 }

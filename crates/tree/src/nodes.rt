@@ -1,5 +1,5 @@
 // The records of a tree in the table that was lent for it.
-ghost use Rattle.std.specs.Prelude.{◌≡◌, ◌<◌, List, length, slice_index_or};
+ghost use Rattle.std.specs.Prelude.{◌≡◌, ◌^◌, ◌<◌, List, length, slice_index_or, slice_set};
 ghost use Rattle.tree.specs.Shape.{Shape, ents, row, stored, stored_height, Stands};
 ghost use Rattle.tree.specs.Joins.{Putted};
 
@@ -50,6 +50,16 @@ impl<E: Entry> Nodes<'_, E> {
         }
     }
 
+    // Writes a record at a slot. That is where the table's length is read, so callers learn how large it can be.
+    fn set(&mut self, at: usize, node: Node<E, E::Summary>)
+        ensures written { self.new.table.now ≡ slice_set self.old.table.now at node }
+        ensures small { length self.old.table.now < 2 ^ 64 }
+    {
+        if at < self.len() {
+            self.table[at] = node;
+        }
+    }
+
     // Writes the record of a fork. Heights stay far below 255, so the sum never stops there.
     pub(crate) fn put(&mut self, top: Fork<E>)
         ensures { Putted E.sums self.old.table.now top self.new.table.now }
@@ -59,14 +69,13 @@ impl<E: Entry> Nodes<'_, E> {
         let height = self.height(left).max(self.height(right)).saturating_add(1);
         let rest = E::join(top.entry.summary(), self.summary(right));
         let summary = E::join(self.summary(left), rest);
-        if top.at < self.len() {
-            self.table[top.at] = Node {
-                entry: top.entry,
-                left,
-                right,
-                height,
-                summary,
-            };
-        }
+        let node = Node {
+            entry: top.entry,
+            left,
+            right,
+            height,
+            summary,
+        };
+        self.set(top.at, node);
     }
 }
