@@ -94,9 +94,16 @@ module _ {E Z : Type 0} (M : Z → List E → Type 0) (xs : List (Node E Z)) (ro
           taller = omega arith;
         }
 
--- a key belongs on the side from which the node is seen
-pub fork_goes : {E K Z : Type 0} (O : Order E K) (L : IsTotalOrder O.cmp) (k : K) (at : ℕ) (n : Node E Z) (side : Side) (f : Fork E) → f ≡ fork_of at side n → side_of (O.cmp k (O.key n.entry)) ≡ Some side → Goes O f.side k (O.key f.entry)
-fork_goes {E} O L k at n side f fe goes = subst (λ (g : Fork E). Goes O g.side k (O.key g.entry)) (sym fe) (side_goes O L k (O.key n.entry) side goes)
+-- the root of a tree, seen from the side on which the key k belongs
+pub record Way {E K Z : Type 0} (M : Z → List E → Type 0) (O : Order E K) (xs : List (Node E Z)) (t : Shape E) (k : K) (f : Fork E) : Type 0 where
+  pub parts : Parted M xs f t
+  pub goes : Goes O f.side k (O.key f.entry)
+
+pub way : {E K Z : Type 0} (M : Z → List E → Type 0) (O : Order E K) (L : IsTotalOrder O.cmp) (xs : List (Node E Z)) (root : Option ℕ) (t : Shape E) → Fit M xs root t → (at : ℕ) → root ≡ Some at → (n : Node E Z) → n ≡ get_or xs at n → (k : K) (side : Side) → side_of (O.cmp k (O.key n.entry)) ≡ Some side → (f : Fork E) → f ≡ fork_of at side n → Way M O xs t k f
+way {E} M O L xs root t F at is n read k side goes f fe = record {
+  parts = opens M xs root t F at is n read side f fe;
+  goes = subst (λ (g : Fork E). Goes O g.side k (O.key g.entry)) (sym fe) (side_goes O L k (O.key n.entry) side goes);
+}
 
 module _ {E K Z : Type 0} (M : Z → List E → Type 0) (O : Order E K) (L : IsTotalOrder O.cmp) (xs : List (Node E Z)) (root : Option ℕ) (t : Shape E) (S : Sound M O xs root t) (f : Fork E) (o : Parted M xs f t) where
   pub rises : Rising (by_entry O) (between f.side (row o.a) (f.at, f.entry) (row o.b))

@@ -1,5 +1,5 @@
 -- The steps of a removal.
-use Rattle.std.proofs.Common.{◌≡◌, ℕ, ◌<◌, false, List, [], ◌∷◌, ◌++◌, Some, None, Option, sym, refl, ap, ◌∙◌, subst, inl, inr, append-nil, arith}
+use Rattle.std.proofs.Common.{◌≡◌, ℕ, ◌<◌, false, List, [], ◌∷◌, ◌++◌, Some, None, Option, sym, refl, ap, ◌∙◌, subst, inl, inr, arith}
 use Rattle.std.specs.Cmp.{IsTotalOrder}
 use Rattle.tree.specs.declared.fork.Fork.{Fork}
 use Rattle.tree.specs.declared.node.Node.{Node}
@@ -63,21 +63,6 @@ module _ {E Z : Type 0} (M : Z → List E → Type 0) (xs : List (Node E Z)) (ro
 
 -- two trees as one
 module _ {E Z : Type 0} (M : Z → List E → Type 0) (xs : List (Node E Z)) (left right : Option ℕ) (l r : Shape E) (P : Pair M xs left right l r) where
-  pub glue_end : right ≡ None → (u : Shape E) × Glued M xs l r xs left u
-  glue_end stop =
-      let q = none_leaf M xs r (sym stop ∙ P.rights.0, P.rights.1) in
-      let z : tall r ≡ 0 = ap tall q in (
-        l,
-        record {
-          stands = P.lefts;
-          avl = P.avl_left;
-          order = sym (ap (λ (x : Shape E). row l ++ row x) q ∙ append-nil (row l));
-          frame = frame_none xs (row l);
-          lower = omega arith;
-          taller = omega arith;
-        },
-      )
-
   module _ (k : ℕ) (is : right ≡ Some k) where
     right_fit : Fit M xs (Some k) r
     right_fit = record { stands = (sym is ∙ P.rights.0, P.rights.1); avl = P.avl_right; once = distinct_right (row l) (row r) P.once }

@@ -1,10 +1,10 @@
 -- Trees in a table of records: heights, what a change elsewhere leaves, and what a write makes.
 use Rattle.std.proofs.Common.{◌≡◌, ℕ, ◌<◌, ◌≢◌, List, [], ◌∷◌, ◌++◌, length, get_or, set, Some, None, Option, unwrap_or, sym, refl, ap, ◌∙◌, subst, inl, inr, arith, length-set, get_or-set_other}
 use Rattle.std.proofs.lemmas.List.{get_or_default, map-append}
-use Rattle.std.proofs.lemmas.Option.{none-some, same_Some, slice_get-get_or, slice_get_read, get_or_from_slice_get}
+use Rattle.std.proofs.lemmas.Option.{none-some, same_Some, slice_get_read}
 use Rattle.std.specs.Option.{option_map}
 use Rattle.tree.specs.declared.node.Node.{Node}
-use Rattle.tree.specs.Shape.{Shape, leaf, node, tall, row, ents, In, record_over, Linked, Stands, stored, stored_height}
+use Rattle.tree.specs.Shape.{Shape, leaf, node, tall, row, ents, In, record_over, Linked, Stands, stored_height}
 use Rattle.tree.specs.Joins.{Frame}
 use Rattle.tree.proofs.Slots.{in_left, in_right, in_mid, in_parts}
 
@@ -56,20 +56,6 @@ module _ {E Z : Type 0} (M : Z → List E → Type 0) where
   pub none_leaf : (xs : List (Node E Z)) (t : Shape E) → Stands M xs None t → t ≡ leaf
   none_leaf xs leaf s = refl
   none_leaf xs (node l a e r) s = absurd (none-some a s.0)
-
-  -- a summary that is read at a link is right for the tree that stands there
-  pub stored_sums : (xs : List (Node E Z)) (k : Option ℕ) (n : Node E Z) (t : Shape E) → Some n ≡ stored xs k → Stands M xs k t → M n.summary (ents (row t))
-  stored_sums xs k n leaf q s = absurd (none-some n (sym (q ∙ ap (stored xs) s.0)))
-  stored_sums xs k n (node l a e r) q s =
-      let R = s.1.0 in
-      let is : record_over e l r R.sum ≡ n = R.is ∙ get_or_from_slice_get xs a n (record_over e l r R.sum) (sym (q ∙ ap (stored xs) s.0)) in
-      subst (λ (y : Z). M y (ents (row (node l a e r)))) (ap (λ (m : Node E Z). m.summary) is) R.right
-
-  pub stored_none : (xs : List (Node E Z)) (k : Option ℕ) (t : Shape E) → None ≡ stored xs k → Stands M xs k t → t ≡ leaf
-  stored_none xs k leaf q s = refl
-  stored_none xs k (node l a e r) q s =
-      let R = s.1.0 in
-      absurd (none-some (get_or xs a (record_over e l r R.sum)) (q ∙ ap (stored xs) s.0 ∙ slice_get-get_or xs a (record_over e l r R.sum) R.within))
 
   -- a slot of a tree is one of the table's
   pub in_within : (xs : List (Node E Z)) (k : ℕ) (t : Shape E) → Linked M xs t → In k (row t) → k < length xs

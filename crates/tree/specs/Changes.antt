@@ -1,5 +1,5 @@
 -- What the changes of a tree ask and give.
-use Rattle.std.specs.Prelude.{◌≡◌, ℕ, ◌+◌, ◌<◌, ◌≤◌, max, List, [], ◌∷◌, ◌++◌, length, Some, None, Option}
+use Rattle.std.specs.Prelude.{◌≡◌, ℕ, ◌+◌, ◌<◌, ◌≤◌, max, List, [], ◌∷◌, ◌++◌, length, Some, None, Option, IfSome}
 use Rattle.std.specs.List.{find}
 use Rattle.std.specs.Option.{unwrap_or}
 use Rattle.tree.specs.declared.node.Node.{Node}
@@ -25,8 +25,7 @@ pub record Free {E K Z : Type 0} (O : Order E K) (xs : List (Node E Z)) (slot : 
 
 -- a slot that is given is one of the table's, and not in use
 abbrev pub Unused : {E Z : Type 0} → List (Node E Z) → Option ℕ → List (ℕ × E) → Type 0
-Unused xs (Some s) ps = (s < length xs) × (In s ps → ⊥)
-Unused xs None ps = Unit {0}
+Unused xs to ps = IfSome to (λ s. (s < length xs) × (In s ps → ⊥))
 
 -- p has the key of e, and the slot that is given for e is not in use
 pub record Vacant {E K Z : Type 0} (O : Order E K) (xs : List (Node E Z)) (to : Option ℕ) (e : E) (p : ℕ × E) (t : Shape E) : Type 0 where

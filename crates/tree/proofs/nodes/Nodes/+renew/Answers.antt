@@ -1,25 +1,25 @@
 use Rattle.std.proofs.Common.{arith, refl}
 use Rattle.tree.specs.declared.side.Side.TheVariants.{Left}
 use Rattle.tree.specs.Orders.{order_by}
-use Rattle.tree.proofs.Descends.{opens, fork_goes}
+use Rattle.tree.proofs.Descends.{opens, way}
 use Rattle.tree.proofs.Renews.{renew_down, renew_ready, renew_back, renew_here}
 use Rattle.tree.proofs.nodes.Nodes.+renew.Goals as goal
 
 pub renew-near-requires : goal.renew-near-requires
 renew-near-requires g t c κs within =
-    let o = opens g.E.Entry.sums c.args.self.now.table.now c.args.root c.requires.0 c.requires.2.fit c.in-Some.at c.in-Some.is c.node-n.result c.node-n.ensures c.in-Some-side_of.side c.fork-top.result c.fork-top.ensures in
-    let d = renew_down g.E.Entry.sums (order_by g.E.Entry.key g.E.Key.Ord.cmp) g.met.E.Key.Ord.total c.args.self.now.table.now c.args.root c.args.to c.args.entry c.requires.0 c.requires.1 c.requires.2 c.requires.3 c.fork-top.result o (fork_goes (order_by g.E.Entry.key g.E.Key.Ord.cmp) g.met.E.Key.Ord.total (g.E.Entry.key c.args.entry) c.in-Some.at c.node-n.result c.in-Some-side_of.side c.fork-top.result c.fork-top.ensures (cc)) in
+    let w = way g.E.Entry.sums (order_by g.E.Entry.key g.E.Key.Ord.cmp) g.met.E.Key.Ord.total c.args.self.now.table.now c.args.root c.requires.0 c.requires.2.fit c.in-Some.at c.in-Some.is c.node-n.result c.node-n.ensures (g.E.Entry.key c.args.entry) c.in-Some-side_of.side (cc) c.fork-top.result c.fork-top.ensures in
+    let d = renew_down g.E.Entry.sums (order_by g.E.Entry.key g.E.Key.Ord.cmp) g.met.E.Key.Ord.total c.args.self.now.table.now c.args.root c.args.to c.args.entry c.requires.0 c.requires.1 c.requires.2 c.requires.3 c.fork-top.result w.parts w.goes in
     (omega (arith, c.decreases, d.0), (within.0, (within.1.0, (within.1.1, d.1))))
 
 pub balance-requires : goal.balance-requires
 balance-requires g t c =
-    let o = opens g.E.Entry.sums c.args.self.now.table.now c.args.root c.requires.0 c.requires.2.fit c.in-Some.at c.in-Some.is c.node-n.result c.node-n.ensures c.in-Some-side_of.side c.fork-top.result c.fork-top.ensures in
-    renew_ready g.E.Entry.sums (order_by g.E.Entry.key g.E.Key.Ord.cmp) g.met.E.Key.Ord.total c.args.self.now.table.now c.args.root c.args.to c.args.entry c.requires.0 c.requires.1 c.requires.2 c.requires.3 c.fork-top.result o (fork_goes (order_by g.E.Entry.key g.E.Key.Ord.cmp) g.met.E.Key.Ord.total (g.E.Entry.key c.args.entry) c.in-Some.at c.node-n.result c.in-Some-side_of.side c.fork-top.result c.fork-top.ensures (cc)) _ _ c.renew-near.ensures
+    let w = way g.E.Entry.sums (order_by g.E.Entry.key g.E.Key.Ord.cmp) g.met.E.Key.Ord.total c.args.self.now.table.now c.args.root c.requires.0 c.requires.2.fit c.in-Some.at c.in-Some.is c.node-n.result c.node-n.ensures (g.E.Entry.key c.args.entry) c.in-Some-side_of.side (cc) c.fork-top.result c.fork-top.ensures in
+    renew_ready g.E.Entry.sums (order_by g.E.Entry.key g.E.Key.Ord.cmp) g.met.E.Key.Ord.total c.args.self.now.table.now c.args.root c.args.to c.args.entry c.requires.0 c.requires.1 c.requires.2 c.requires.3 c.fork-top.result w.parts w.goes _ _ c.renew-near.ensures
 
 pub returns-in-Some-side_of : goal.returns-in-Some-side_of
 returns-in-Some-side_of g t c x p S V =
-    let o = opens g.E.Entry.sums c.args.self.now.table.now c.args.root x S.fit c.in-Some.at c.in-Some.is c.node-n.result c.node-n.ensures c.in-Some-side_of.side c.fork-top.result c.fork-top.ensures in
-    renew_back g.E.Entry.sums (order_by g.E.Entry.key g.E.Key.Ord.cmp) g.met.E.Key.Ord.total c.args.self.now.table.now c.args.root c.args.to c.args.entry x p S V c.fork-top.result o (fork_goes (order_by g.E.Entry.key g.E.Key.Ord.cmp) g.met.E.Key.Ord.total (g.E.Entry.key c.args.entry) c.in-Some.at c.node-n.result c.in-Some-side_of.side c.fork-top.result c.fork-top.ensures (cc)) _ _ c.renew-near.ensures _ _ c.balance.ensures
+    let w = way g.E.Entry.sums (order_by g.E.Entry.key g.E.Key.Ord.cmp) g.met.E.Key.Ord.total c.args.self.now.table.now c.args.root x S.fit c.in-Some.at c.in-Some.is c.node-n.result c.node-n.ensures (g.E.Entry.key c.args.entry) c.in-Some-side_of.side (cc) c.fork-top.result c.fork-top.ensures in
+    renew_back g.E.Entry.sums (order_by g.E.Entry.key g.E.Key.Ord.cmp) g.met.E.Key.Ord.total c.args.self.now.table.now c.args.root c.args.to c.args.entry x p S V c.fork-top.result w.parts w.goes _ _ c.renew-near.ensures _ _ c.balance.ensures
 
 pub returns-in-None : goal.returns-in-None
 returns-in-None g t c x p S V =

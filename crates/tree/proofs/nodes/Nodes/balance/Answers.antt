@@ -12,11 +12,6 @@ rotate-requires-then-saturating_sub-gt1-2 g c =
     let h = ready_heights g.E.Entry.sums c.args.self.now.table.now c.args.top c.requires.0 c.requires.1 c.requires.2 in
     (c.requires.1, c.requires.0, ready_flip g.E.Entry.sums c.args.self.now.table.now c.args.top c.mirrored.result c.mirrored.ensures c.requires.0 c.requires.1 c.requires.2, omega arith)
 
-pub returns-then-saturating_sub-gt1 : goal.returns-then-saturating_sub-gt1
-returns-then-saturating_sub-gt1 g c a b R =
-    let h = ready_heights g.E.Entry.sums c.args.self.now.table.now c.args.top a b R in
-    c.rotate.ensures a b R (omega arith)
-
 pub returns-then-saturating_sub-gt1-2 : goal.returns-then-saturating_sub-gt1-2
 returns-then-saturating_sub-gt1-2 g c a b R =
     let h = ready_heights g.E.Entry.sums c.args.self.now.table.now c.args.top a b R in

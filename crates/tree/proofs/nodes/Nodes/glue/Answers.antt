@@ -1,4 +1,4 @@
-use Rattle.tree.proofs.Shrinks.{glue_down, glue_ready, glue_back, glue_end}
+use Rattle.tree.proofs.Shrinks.{glue_down, glue_ready, glue_back}
 use Rattle.tree.proofs.nodes.Nodes.glue.Goals as goal
 
 pub pop_first-first-requires : goal.pop_first-first-requires
@@ -9,6 +9,3 @@ balance-top-requires g c = glue_ready g.E.Entry.sums c.args.self.now.table.now c
 
 pub returns-in-Some : goal.returns-in-Some
 returns-in-Some g c l r P = glue_back g.E.Entry.sums c.args.self.now.table.now c.args.left c.args.right l r P c.in-Some.right c.in-Some.is _ _ _ _ c.pop_first-first.ensures _ _ c.balance-top.ensures
-
-pub returns-in-None : goal.returns-in-None
-returns-in-None g c l r P = glue_end g.E.Entry.sums c.args.self.now.table.now c.args.left c.args.right l r P c.in-None.is
