@@ -7,20 +7,20 @@ use Rattle.tree.proofs.nodes.Nodes.+renew.Goals as goal
 
 pub renew-near-requires : goal.renew-near-requires
 renew-near-requires g t c κs within =
-    let w = way g.E.Entry.sums (order_by g.E.Entry.key g.E.Key.Ord.cmp) g.met.E.Key.Ord.total c.args.self.now.table.now c.args.root c.requires.0 c.requires.2.fit c.in-Some.at c.in-Some.is c.node-n.result c.node-n.ensures (g.E.Entry.key c.args.entry) c.in-Some-side_of.side (cc) c.fork-top.result c.fork-top.ensures in
-    let d = renew_down g.E.Entry.sums (order_by g.E.Entry.key g.E.Key.Ord.cmp) g.met.E.Key.Ord.total c.args.self.now.table.now c.args.root c.args.to c.args.entry c.requires.0 c.requires.1 c.requires.2 c.requires.3 c.fork-top.result w.parts w.goes in
+    let w = way _ (order_by g.E.Entry.key g.E.Key.Ord.cmp) g.met.E.Key.Ord.total _ _ _ c.requires.2.fit _ c.in-Some.is c.node-n.result c.node-n.ensures (g.E.Entry.key c.args.entry) c.in-Some-side_of.side (cc) _ c.fork-top.ensures in
+    let d = renew_down _ _ g.met.E.Key.Ord.total _ _ _ _ _ _ c.requires.2 c.requires.3 _ w.parts w.goes in
     (omega (arith, c.decreases, d.0), (within.0, (within.1.0, (within.1.1, d.1))))
 
 pub balance-requires : goal.balance-requires
 balance-requires g t c =
-    let w = way g.E.Entry.sums (order_by g.E.Entry.key g.E.Key.Ord.cmp) g.met.E.Key.Ord.total c.args.self.now.table.now c.args.root c.requires.0 c.requires.2.fit c.in-Some.at c.in-Some.is c.node-n.result c.node-n.ensures (g.E.Entry.key c.args.entry) c.in-Some-side_of.side (cc) c.fork-top.result c.fork-top.ensures in
-    renew_ready g.E.Entry.sums (order_by g.E.Entry.key g.E.Key.Ord.cmp) g.met.E.Key.Ord.total c.args.self.now.table.now c.args.root c.args.to c.args.entry c.requires.0 c.requires.1 c.requires.2 c.requires.3 c.fork-top.result w.parts w.goes _ _ c.renew-near.ensures
+    let w = way _ (order_by g.E.Entry.key g.E.Key.Ord.cmp) g.met.E.Key.Ord.total _ _ _ c.requires.2.fit _ c.in-Some.is c.node-n.result c.node-n.ensures (g.E.Entry.key c.args.entry) c.in-Some-side_of.side (cc) _ c.fork-top.ensures in
+    renew_ready _ _ g.met.E.Key.Ord.total _ _ _ _ _ _ c.requires.2 c.requires.3 _ w.parts w.goes _ _ c.renew-near.ensures
 
 pub returns-in-Some-side_of : goal.returns-in-Some-side_of
 returns-in-Some-side_of g t c x p S V =
-    let w = way g.E.Entry.sums (order_by g.E.Entry.key g.E.Key.Ord.cmp) g.met.E.Key.Ord.total c.args.self.now.table.now c.args.root x S.fit c.in-Some.at c.in-Some.is c.node-n.result c.node-n.ensures (g.E.Entry.key c.args.entry) c.in-Some-side_of.side (cc) c.fork-top.result c.fork-top.ensures in
-    renew_back g.E.Entry.sums (order_by g.E.Entry.key g.E.Key.Ord.cmp) g.met.E.Key.Ord.total c.args.self.now.table.now c.args.root c.args.to c.args.entry x p S V c.fork-top.result w.parts w.goes _ _ c.renew-near.ensures _ _ c.balance.ensures
+    let w = way _ (order_by g.E.Entry.key g.E.Key.Ord.cmp) g.met.E.Key.Ord.total _ _ _ S.fit _ c.in-Some.is c.node-n.result c.node-n.ensures (g.E.Entry.key c.args.entry) c.in-Some-side_of.side (cc) _ c.fork-top.ensures in
+    renew_back _ _ g.met.E.Key.Ord.total _ _ _ _ _ _ S V _ w.parts w.goes _ _ c.renew-near.ensures _ _ c.balance.ensures
 
 pub returns-in-None : goal.returns-in-None
 returns-in-None g t c x p S V =
-    renew_here g.E.Entry.sums (order_by g.E.Entry.key g.E.Key.Ord.cmp) g.met.E.Key.Ord.total c.args.self.now.table.now c.args.root c.args.to c.args.entry x p S V c.in-Some.at c.node-n.result (opens g.E.Entry.sums c.args.self.now.table.now c.args.root x S.fit c.in-Some.at c.in-Some.is c.node-n.result c.node-n.ensures Left _ refl) _ c.unwrap_or-place.result c.unwrap_or-place.ensures (cc) c.fork.result c.fork.ensures c.put.ensures
+    renew_here _ _ g.met.E.Key.Ord.total _ _ _ _ _ _ S V _ c.node-n.result (opens _ _ _ _ S.fit _ c.in-Some.is c.node-n.result c.node-n.ensures Left _ refl) _ c.unwrap_or-place.result c.unwrap_or-place.ensures (cc) c.fork.result c.fork.ensures c.put.ensures
