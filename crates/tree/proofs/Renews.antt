@@ -22,22 +22,30 @@ use Rattle.tree.proofs.Ordered.{No, Goes, found, first_between, edited_between, 
 use Rattle.tree.proofs.Slots.{parts, in_left, in_right, in_drop}
 use Rattle.tree.proofs.Trees.{ents_node}
 
-module _ {E K Z : Type 0} (M : Z → List E → Type 0) (O : Order E K) (L : IsTotalOrder O.cmp) where
-  -- what a writing gives
-  abbrev pub Renewed : List (Node E Z) → Option ℕ → E → Shape E → List (Node E Z) → Option ℕ → Type 0
-  Renewed xs to e t ys top = (u : Shape E) × Changed M xs t ys top u × (row u ≡ reseated O to e (row t))
+-- each slot of a tree has its entry in the table
+pub entries_stored : {E Z : Type 0} (M : Z → List E → Type 0) (xs : List (Node E Z)) (t : Shape E) → Linked M xs t → AllByRecursion (λ q. (m : Node E Z) → m ≡ get_or xs q.0 m → m.entry ≡ q.1) (row t)
+entries_stored M xs leaf h = tt
+entries_stored {E} {Z} M xs (node l s e r) h =
+    let R = h.0 in
+    all_append (λ q. (m : Node E Z) → m ≡ get_or xs q.0 m → m.entry ≡ q.1) (row l) ((s, e) ∷ row r) (entries_stored M xs l h.1)
+    (λ m read. ap (λ (x : Node E Z). x.entry) (read ∙ get_or_default xs s m (record_over e l r R.sum) R.within ∙ sym R.is), entries_stored M xs r h.2)
 
-  module _ (xs : List (Node E Z)) (root : Option ℕ) (to : Option ℕ) (e : E) (t : Shape E) (p : ℕ × E) (S : Sound M O xs root t) (V : Vacant O xs to e p t) where
-    module _ (f : Fork E) (o : Parted M xs f t) (g : Goes O f.side (O.key e) (O.key f.entry)) where
+-- what a writing gives
+abbrev pub Renewed : {E K Z : Type 0} → (Z → List E → Type 0) → Order E K → List (Node E Z) → Option ℕ → E → Shape E → List (Node E Z) → Option ℕ → Type 0
+Renewed {E} M O xs to e t ys top = (u : Shape E) × Changed M xs t ys top u × (row u ≡ reseated O to e (row t))
+
+module _ {E K Z : Type 0} {M : Z → List E → Type 0} {O : Order E K} (L : IsTotalOrder O.cmp) where
+  module _ {xs : List (Node E Z)} {root to : Option ℕ} {e : E} {t : Shape E} {p : ℕ × E} (S : Sound M O xs root t) (V : Vacant O xs to e p t) where
+    module _ {f : Fork E} (o : Parted M xs f t) (g : Goes O f.side (O.key e) (O.key f.entry)) where
       none_far : No (at_key (by_entry O) (O.key e)) (row o.b)
-      none_far = no_far (by_entry O) L f.side (O.key e) (row o.a) (f.at, f.entry) (row o.b) (rises M O L xs root t S f o) g
+      none_far = no_far (by_entry O) L f.side (O.key e) (row o.a) (f.at, f.entry) (row o.b) (rises L S o) g
 
       not_here : at_key (by_entry O) (O.key e) (f.at, f.entry) ≡ false
       not_here = goes_not (by_entry O) L f.side (O.key e) (f.at, f.entry) g
 
       near_vacant : Vacant O xs to e p o.a
       near_vacant =
-          let w = opens_row M xs root t S.fit f o in
+          let w = opens_row S.fit o in
           let P = at_key (by_entry O) (O.key e) in
           record {
             there = sym (first_between P f.side (row o.a) (f.at, f.entry) (row o.b) not_here none_far) ∙ sym (ap (find P) w) ∙ V.there;
@@ -46,16 +54,16 @@ module _ {E K Z : Type 0} (M : Z → List E → Type 0) (O : Order E K) (L : IsT
 
       -- what the call for the near side asks
       pub renew_down : (stored_height xs f.near < stored_height xs root) × ((a : Shape E) × (q : ℕ × E) × Sound M O xs f.near a × Vacant O xs to e q a)
-      renew_down = (falls M xs root t S.fit f o, (o.a, p, sound_near M O L xs root t S f o, near_vacant))
+      renew_down = (falls S.fit o, (o.a, p, sound_near L S o, near_vacant))
 
       -- after that call
-      module _ (ys : List (Node E Z)) (near : Option ℕ) (ih : (a : Shape E) (q : ℕ × E) → Sound M O xs f.near a → Vacant O xs to e q a → Renewed xs to e a ys near) where
-        new : Renewed xs to e o.a ys near
-        new = ih o.a p (sound_near M O L xs root t S f o) near_vacant
+      module _ {ys : List (Node E Z)} {near : Option ℕ} (ih : (a : Shape E) (q : ℕ × E) → Sound M O xs f.near a → Vacant O xs to e q a → Renewed M O xs to e a ys near) where
+        new : Renewed M O xs to e o.a ys near
+        new = ih o.a p (sound_near L S o) near_vacant
 
         new_row : reseated O to e (row t) ≡ between f.side (row new.0) (f.at, f.entry) (row o.b)
         new_row =
-            ap (reseated O to e) (opens_row M xs root t S.fit f o)
+            ap (reseated O to e) (opens_row S.fit o)
             ∙ edited_between (at_key (by_entry O) (O.key e)) (λ q. (unwrap_or to q.0, e) ∷ []) f.side (row o.a) (f.at, f.entry) (row o.b) not_here none_far
             ∙ ap (λ (u : List (ℕ × E)). between f.side u (f.at, f.entry) (row o.b)) (sym new.2)
 
@@ -65,30 +73,30 @@ module _ {E K Z : Type 0} (M : Z → List E → Type 0) (O : Order E K) (L : IsT
             subst Distinct (sym (swap_row O L (row t) p to e F) ∙ new_row) (swap_once O L (O.key e) (row t) p S.fit.once F xs to e V.unused)
 
         new_ready : Ready M ys (onto f near) new.0 o.b
-        new_ready = ready_back M xs root t S.fit f o ys near new.0 new.1 new_once
+        new_ready = ready_back S.fit o new.1 new_once
 
         pub renew_ready : (a : Shape E) × (b : Shape E) × Ready M ys (onto f near) a b
         renew_ready = (new.0, o.b, new_ready)
 
-        pub renew_back : (zs : List (Node E Z)) (top : ℕ) → ((a b : Shape E) → Ready M ys (onto f near) a b → (u : Shape E) × Joins M ys (over f a b) zs top u) → Renewed xs to e t zs (Some top)
-        renew_back zs top join =
+        pub renew_back : {zs : List (Node E Z)} {top : ℕ} → ((a b : Shape E) → Ready M ys (onto f near) a b → (u : Shape E) × Joins M ys (over f a b) zs top u) → Renewed M O xs to e t zs (Some top)
+        renew_back join =
             let j = join new.0 o.b new_ready in
-            (j.0, changed_back M xs root t S.fit f o ys near new.0 new.1 new_once zs top j.0 j.1, j.1.order ∙ row_over f new.0 o.b ∙ sym new_row)
+            (j.0, changed_back S.fit o new.1 new_once j.1, j.1.order ∙ row_over f new.0 o.b ∙ sym new_row)
 
     -- in place of the root's own entry
-    pub renew_here : (at : ℕ) (n : Node E Z) → Parted M xs (fork_of at Left n) t → (ys : List (Node E Z)) (place : ℕ) → place ≡ unwrap_or to at → side_of (O.cmp (O.key e) (O.key n.entry)) ≡ None → (h : Fork E) → h ≡ fork_of at Left n → Putted M xs (record h { at = place; entry = e }) ys → Renewed xs to e t ys (Some place)
-    renew_here at n o ys place pe same g ge put =
+    pub renew_here : {at : ℕ} (n : Node E Z) → Parted M xs (fork_of at Left n) t → {ys : List (Node E Z)} {place : ℕ} → place ≡ unwrap_or to at → side_of (O.cmp (O.key e) (O.key n.entry)) ≡ None → {h : Fork E} → h ≡ fork_of at Left n → Putted M xs (record h { at = place; entry = e }) ys → Renewed M O xs to e t ys (Some place)
+    renew_here {at} n o {ys} {place} pe same ge put =
         let f = fork_of at Left n in
         let q = subst (λ (x : Fork E). Putted M xs (record x { at = place; entry = e }) ys) ge put in
         let F = S.fit in
-        let v = opens_level M xs root t F f o in
-        let h = opens_tall M xs root t F f o in
+        let v = opens_level F o in
+        let h = opens_tall F o in
         let i = low M xs t q.small F.avl F.once F.stands.1 in
-        let w = opens_row M xs root t F f o in
-        let r = rises M O L xs root t S f o in
+        let w = opens_row F o in
+        let r = rises L S o in
         let k = side_same O (O.key e) (O.key n.entry) same in
         let P = at_key (by_entry O) (O.key e) in
-        let c = parts (row o.a) (at, n.entry) (row o.b) (opens_once M xs root t F f o) in
+        let c = parts (row o.a) (at, n.entry) (row o.b) (opens_once F o) in
         let inc : (x : Shape E) → ((j : ℕ) → In j (row x) → In j (row o.a ++ ((at, n.entry) ∷ row o.b))) → (In at (row x) → ⊥) → In place (row x) → ⊥ = λ x f no b. seat_new xs to (row t) (row x) at V.unused (λ j y. subst (In j) (sym w) (f j y)) no (subst (λ (s : ℕ). In s (row x)) pe b) in
         let na = inc o.a (λ j y. in_left j (row o.a) ((at, n.entry) ∷ row o.b) y) c.new_left in
         let nb = inc o.b (λ j y. in_right j (row o.a) ((at, n.entry) ∷ row o.b) (inr y)) c.new_right in
@@ -108,15 +116,7 @@ module _ {E K Z : Type 0} (M : Z → List E → Type 0) (O : Order E K) (L : IsT
         )
 
   -- ---- the move of the last entry
-  -- each slot of a tree has its entry in the table
-  pub entries_stored : (xs : List (Node E Z)) (t : Shape E) → Linked M xs t → AllByRecursion (λ q. (m : Node E Z) → m ≡ get_or xs q.0 m → m.entry ≡ q.1) (row t)
-  entries_stored xs leaf h = tt
-  entries_stored xs (node l s e r) h =
-      let R = h.0 in
-      all_append (λ q. (m : Node E Z) → m ≡ get_or xs q.0 m → m.entry ≡ q.1) (row l) ((s, e) ∷ row r) (entries_stored xs l h.1)
-      (λ m read. ap (λ (x : Node E Z). x.entry) (read ∙ get_or_default xs s m (record_over e l r R.sum) R.within ∙ sym R.is), entries_stored xs r h.2)
-
-  module _ (xs : List (Node E Z)) (root : Option ℕ) (slot last : ℕ) (t : Shape E) (S : Sound M O xs root t) (G : Gap xs slot last t) where
+  module _ {xs : List (Node E Z)} {root : Option ℕ} {slot last : ℕ} {t : Shape E} (S : Sound M O xs root t) (G : Gap xs slot last t) where
     pub fill_stays : last ≤ slot → (u : Shape E) × Filled M O xs last t xs root u
     fill_stays le = (
       t,
@@ -136,7 +136,7 @@ module _ {E K Z : Type 0} (M : Z → List E → Type 0) (O : Order E K) (L : IsT
       last_there : find (at_key (by_entry O) (O.key m.entry)) (row t) ≡ Some (last, m.entry)
       last_there = elim (at_slot last (row t)) [
         | inl c ↦
-            let f : m.entry ≡ c.1 = (all_right (λ q. (x : Node E Z) → x ≡ get_or xs q.0 x → x.entry ≡ q.1) c.0 ((last, c.1) ∷ c.2) (subst (AllByRecursion (λ q. (x : Node E Z) → x ≡ get_or xs q.0 x → x.entry ≡ q.1)) c.3 (entries_stored xs t S.fit.stands.1))).0 m read in
+            let f : m.entry ≡ c.1 = (all_right (λ q. (x : Node E Z) → x ≡ get_or xs q.0 x → x.entry ≡ q.1) c.0 ((last, c.1) ∷ c.2) (subst (AllByRecursion (λ q. (x : Node E Z) → x ≡ get_or xs q.0 x → x.entry ≡ q.1)) c.3 (entries_stored M xs t S.fit.stands.1))).0 m read in
             let is : row t ≡ c.0 ++ ((last, m.entry) ∷ c.2) = c.3 ∙ ap (λ (x : E). c.0 ++ ((last, x) ∷ c.2)) (sym f) in
             let r : Rising (by_entry O) (c.0 ++ ((last, m.entry) ∷ c.2)) = subst (Rising (by_entry O)) is S.rising in
             ap (find (at_key (by_entry O) (O.key m.entry))) is ∙ first_here (at_key (by_entry O) (O.key m.entry)) c.0 (last, m.entry) c.2 (no_left (by_entry O) L (O.key m.entry) c.0 (last, m.entry) c.2 r (tied_itself L (O.key m.entry))) (same_at (by_entry O) (O.key m.entry) (last, m.entry) (tied_itself L (O.key m.entry)))
@@ -149,8 +149,8 @@ module _ {E K Z : Type 0} (M : Z → List E → Type 0) (O : Order E K) (L : IsT
       pub fill_down : (x : Shape E) × (p : ℕ × E) × Sound M O xs root x × Vacant O xs (Some slot) m.entry p x
       fill_down = (t, (last, m.entry), S, last_vacant)
 
-      pub fill_moved : (ys : List (Node E Z)) (top : ℕ) → ((x : Shape E) (p : ℕ × E) → Sound M O xs root x → Vacant O xs (Some slot) m.entry p x → Renewed xs (Some slot) m.entry x ys (Some top)) → (u : Shape E) × Filled M O xs last t ys (Some top) u
-      fill_moved ys top renew =
+      pub fill_moved : {ys : List (Node E Z)} {top : ℕ} → ((x : Shape E) (p : ℕ × E) → Sound M O xs root x → Vacant O xs (Some slot) m.entry p x → Renewed M O xs (Some slot) m.entry x ys (Some top)) → (u : Shape E) × Filled M O xs last t ys (Some top) u
+      fill_moved renew =
           let R = renew t (last, m.entry) S last_vacant in
           let k = O.key m.entry in
           let F = found (by_entry O) L k (row t) (last, m.entry) S.rising last_there in

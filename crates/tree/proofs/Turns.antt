@@ -18,18 +18,18 @@ beside f far = record f { far = far }
 abbrev pub below : {E : Type 0} → Fork E → ℕ → E → Option ℕ → Option ℕ → Fork E
 below f k e near far = record { at = k; entry = e; side = f.side; near = near; far = far }
 
-module _ {E Z : Type 0} (M : Z → List E → Type 0) (xs : List (Node E Z)) (f : Fork E) where
+module _ {E Z : Type 0} {M : Z → List E → Type 0} {xs : List (Node E Z)} {f : Fork E} where
   -- heights fit a byte
-  lows : (a b : Shape E) → Ready M xs f a b → length xs < 2 ^ 64 → (tall a < 254) × (tall b < 254)
-  lows a b R small =
+  lows : {a b : Shape E} → Ready M xs f a b → length xs < 2 ^ 64 → (tall a < 254) × (tall b < 254)
+  lows {a} {b} R small =
       let p = parts_over f a b R.once in
       (low M xs a small R.avl_near p.lefts R.nears.1, low M xs b small R.avl_far p.rights R.fars.1)
 
   -- no rotation
-  pub joins_here : (a b : Shape E) → Ready M xs f a b → tall a ≤ tall b + 1 → tall b ≤ tall a + 1 → (ys : List (Node E Z)) → Putted M xs f ys → Joins M xs (over f a b) ys f.at (over f a b)
-  joins_here a b R ha hb ys q =
+  pub joins_here : {a b : Shape E} → Ready M xs f a b → tall a ≤ tall b + 1 → tall b ≤ tall a + 1 → {ys : List (Node E Z)} → Putted M xs f ys → Joins M xs (over f a b) ys f.at (over f a b)
+  joins_here {a} {b} R ha hb {ys} q =
       let p = parts_over f a b R.once in
-      let lo = lows a b R q.small in
+      let lo = lows R q.small in
       let la : tall a < 255 = omega arith in
       let lb : tall b < 255 = omega arith in
       let P = put_over M xs ys f a b q R.within R.nears R.fars la lb p.new_left p.new_right in
@@ -65,7 +65,7 @@ module _ {E Z : Type 0} (M : Z → List E → Type 0) (xs : List (Node E Z)) (f 
         let tt = tall_over h o B in
         let tw = tall_over f A b in
         let v = level h o i R.avl_near in
-        let lo = lows A b R q.small in
+        let lo = lows R q.small in
         let cn = R.close_near in
         let d : Distinct (row t) = subst Distinct (sym once_order) R.once in
         let p = parts_over h o B d in
@@ -119,7 +119,7 @@ module _ {E Z : Type 0} (M : Z → List E → Type 0) (xs : List (Node E Z)) (f 
         let tw = tall_over f D b in
         let v = level h o C R.avl_near in
         let u = level m x y v.avl_far in
-        let lo = lows D b R q.small in
+        let lo = lows R q.small in
         let cn = R.close_near in
         let d : Distinct (row t) = subst Distinct (sym twice_order) R.once in
         let p = parts_over m A B d in
@@ -151,7 +151,7 @@ module _ {E Z : Type 0} (M : Z → List E → Type 0) (xs : List (Node E Z)) (f 
         }
 
   -- over any tree whose root is at k, as the code meets it
-  module _ (a b : Shape E) (R : Ready M xs f a b) (high : tall b + 1 < tall a) (k : ℕ) (at_k : f.near ≡ Some k) where
+  module _ {a b : Shape E} (R : Ready M xs f a b) (high : tall b + 1 < tall a) {k : ℕ} (at_k : f.near ≡ Some k) where
     near_stands : Stands M xs (Some k) a
     near_stands = (sym at_k ∙ R.nears.0, R.nears.1)
 
@@ -165,8 +165,8 @@ module _ {E Z : Type 0} (M : Z → List E → Type 0) (xs : List (Node E Z)) (f 
       near_ready : Ready M xs f (over (fork_of k f.side n) near_parted.a near_parted.b) b
       near_ready = subst (λ (x : Shape E). Ready M xs f x b) near_parted.is R
 
-      pub rotated_once : (h : Fork E) → h ≡ fork_of k f.side n → stored_height xs h.far ≤ stored_height xs h.near → (ys zs : List (Node E Z)) → Putted M xs (onto f h.far) ys → Putted M ys (beside h (Some f.at)) zs → (t : Shape E) × Joins M xs (over f a b) zs k t
-      rotated_once h he = subst (λ (g : Fork E). stored_height xs g.far ≤ stored_height xs g.near → (ys zs : List (Node E Z)) → Putted M xs (onto f g.far) ys → Putted M ys (beside g (Some f.at)) zs → (t : Shape E) × Joins M xs (over f a b) zs k t) (sym he) once
+      pub rotated_once : {h : Fork E} → h ≡ fork_of k f.side n → stored_height xs h.far ≤ stored_height xs h.near → {ys zs : List (Node E Z)} → Putted M xs (onto f h.far) ys → Putted M ys (beside h (Some f.at)) zs → (t : Shape E) × Joins M xs (over f a b) zs k t
+      rotated_once {h} he lean {ys} {zs} = subst (λ (g : Fork E). stored_height xs g.far ≤ stored_height xs g.near → (ys zs : List (Node E Z)) → Putted M xs (onto f g.far) ys → Putted M ys (beside g (Some f.at)) zs → (t : Shape E) × Joins M xs (over f a b) zs k t) (sym he) once lean ys zs
         where
           once : stored_height xs (fork_of k f.side n).far ≤ stored_height xs (fork_of k f.side n).near → (ys zs : List (Node E Z)) → Putted M xs (onto f (fork_of k f.side n).far) ys → Putted M ys (beside (fork_of k f.side n) (Some f.at)) zs → (t : Shape E) × Joins M xs (over f a b) zs k t
           once lean ys zs q qz =
@@ -177,10 +177,11 @@ module _ {E Z : Type 0} (M : Z → List E → Type 0) (xs : List (Node E Z)) (f 
               let J = single k n.entry g.near g.far o.a o.b b near_ready o.nears o.fars (subst (λ (x : Shape E). tall b + 1 < tall x) o.is high) (omega arith) near_within ys zs q qz in
               (_, subst (λ (x : Shape E). Joins M xs (over f x b) zs k (over g o.a (over f o.b b))) (sym o.is) J)
 
-      pub rotated_twice : (h : Fork E) → h ≡ fork_of k f.side n → stored_height xs h.near < stored_height xs h.far → (j : ℕ) → h.far ≡ Some j → (m : Node E Z) → m ≡ get_or xs j m → (i : Fork E) → i ≡ fork_of j f.side m → (ys zs ws : List (Node E Z)) → Putted M xs (beside h i.near) ys → Putted M ys (onto f i.far) zs → Putted M zs (beside (onto i (Some k)) (Some f.at)) ws → (t : Shape E) × Joins M xs (over f a b) ws j t
-      rotated_twice h he lean j at_j m readm i ie =
+      pub rotated_twice : {h : Fork E} → h ≡ fork_of k f.side n → stored_height xs h.near < stored_height xs h.far → {j : ℕ} → h.far ≡ Some j → (m : Node E Z) → m ≡ get_or xs j m → {i : Fork E} → i ≡ fork_of j f.side m → {ys zs ws : List (Node E Z)} → Putted M xs (beside h i.near) ys → Putted M ys (onto f i.far) zs → Putted M zs (beside (onto i (Some k)) (Some f.at)) ws → (t : Shape E) × Joins M xs (over f a b) ws j t
+      rotated_twice {h} he lean {j} at_j m readm ie {ys} {zs} {ws} =
           subst (λ (g : Fork E). (ys zs ws : List (Node E Z)) → Putted M xs (beside h g.near) ys → Putted M ys (onto f g.far) zs → Putted M zs (beside (onto g (Some k)) (Some f.at)) ws → (t : Shape E) × Joins M xs (over f a b) ws j t) (sym ie)
           (subst (λ (g : Fork E). stored_height xs g.near < stored_height xs g.far → g.far ≡ Some j → (ys zs ws : List (Node E Z)) → Putted M xs (beside g (fork_of j f.side m).near) ys → Putted M ys (onto f (fork_of j f.side m).far) zs → Putted M zs (beside (onto (fork_of j f.side m) (Some k)) (Some f.at)) ws → (t : Shape E) × Joins M xs (over f a b) ws j t) (sym he) twice lean at_j)
+          ys zs ws
         where
           twice : stored_height xs (fork_of k f.side n).near < stored_height xs (fork_of k f.side n).far → (fork_of k f.side n).far ≡ Some j → (ys zs ws : List (Node E Z)) → Putted M xs (beside (fork_of k f.side n) (fork_of j f.side m).near) ys → Putted M ys (onto f (fork_of j f.side m).far) zs → Putted M zs (beside (onto (fork_of j f.side m) (Some k)) (Some f.at)) ws → (t : Shape E) × Joins M xs (over f a b) ws j t
           twice lean at_j ys zs ws q qz qw =
@@ -195,25 +196,22 @@ module _ {E Z : Type 0} (M : Z → List E → Type 0) (xs : List (Node E Z)) (f 
               let J = double k n.entry g.near g.far j m.entry c.near c.far o.a u.a u.b b (subst (λ (x : Shape E). Ready M xs f x b) is R) o.nears u.nears u.fars (subst (λ (x : Shape E). tall b + 1 < tall x) is high) (subst (λ (x : Shape E). tall o.a < tall x) u.is (omega arith)) near_within u.within ys zs ws q qz qw in
               (_, subst (λ (x : Shape E). Joins M xs (over f x b) ws j (over c (over g o.a u.a) (over f u.b b))) (sym is) J)
 
-  -- the same trees, seen from the other side
-  module _ (h : Fork E) (other : h ≡ mirrored f) where
-    flipped : (a b : Shape E) → over h b a ≡ over f a b
-    flipped a b = ap (λ (x : Fork E). over x b a) other ∙ over_mirrored f a b
+  pub ready_heights : {a b : Shape E} → Ready M xs f a b → (stored_height xs f.near ≡ tall a) × (stored_height xs f.far ≡ tall b)
+  ready_heights {a} {b} R = (height_stands M xs f.near a R.nears, height_stands M xs f.far b R.fars)
 
-    pub ready_flip : (a b : Shape E) → Ready M xs f a b → Ready M xs h b a
-    ready_flip a b R = subst (λ (x : Fork E). Ready M xs x b a) (sym other) (record {
-      within = R.within;
-      nears = R.fars;
-      fars = R.nears;
-      once = subst (λ (x : Shape E). Distinct (row x)) (sym (over_mirrored f a b)) R.once;
-      avl_near = R.avl_far;
-      avl_far = R.avl_near;
-      close_near = R.close_far;
-      close_far = R.close_near;
-    })
+-- the same trees, seen from the other side
+module _ {E Z : Type 0} {M : Z → List E → Type 0} {xs : List (Node E Z)} (f : Fork E) {h : Fork E} (other : h ≡ mirrored f) where
+  pub ready_flip : {a b : Shape E} → Ready M xs f a b → Ready M xs h b a
+  ready_flip {a} {b} R = subst (λ (x : Fork E). Ready M xs x b a) (sym other) (record {
+    within = R.within;
+    nears = R.fars;
+    fars = R.nears;
+    once = subst (λ (x : Shape E). Distinct (row x)) (sym (over_mirrored f a b)) R.once;
+    avl_near = R.avl_far;
+    avl_far = R.avl_near;
+    close_near = R.close_far;
+    close_far = R.close_near;
+  })
 
-    pub joins_flip : (a b : Shape E) (ys : List (Node E Z)) (root : ℕ) → ((t : Shape E) × Joins M xs (over h b a) ys root t) → (t : Shape E) × Joins M xs (over f a b) ys root t
-    joins_flip a b ys root J = (J.0, subst (λ (x : Shape E). Joins M xs x ys root J.0) (flipped a b) J.1)
-
-  pub ready_heights : (a b : Shape E) → Ready M xs f a b → (stored_height xs f.near ≡ tall a) × (stored_height xs f.far ≡ tall b)
-  ready_heights a b R = (height_stands M xs f.near a R.nears, height_stands M xs f.far b R.fars)
+  pub joins_flip : (a b : Shape E) {ys : List (Node E Z)} {root : ℕ} → ((t : Shape E) × Joins M xs (over h b a) ys root t) → (t : Shape E) × Joins M xs (over f a b) ys root t
+  joins_flip a b {ys} {root} J = (J.0, subst (λ (x : Shape E). Joins M xs x ys root J.0) (ap (λ (x : Fork E). over x b a) other ∙ over_mirrored f a b) J.1)

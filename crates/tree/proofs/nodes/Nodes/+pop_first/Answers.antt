@@ -6,21 +6,21 @@ use Rattle.tree.proofs.nodes.Nodes.+pop_first.Goals as goal
 
 pub pop_first-first-requires : goal.pop_first-first-requires
 pop_first-first-requires g t c κs within =
-    let o = opens _ _ _ _ c.requires.1 c.args.root refl c.node-n.result c.node-n.ensures Left _ refl in
-    let d = pop_down _ _ _ _ c.requires.1 _ c.node-n.result o _ c.in-Some.is in
+    let o = opens c.requires.1 refl c.node-n.result c.node-n.ensures Left refl in
+    let d = pop_down c.requires.1 c.node-n.result o c.in-Some.is in
     (omega (arith, c.decreases, d.0), (within.0, (within.1.0, (within.1.1, d.1))))
 
 pub balance-top-requires : goal.balance-top-requires
 balance-top-requires g t c =
-    let o = opens _ _ _ _ c.requires.1 c.args.root refl c.node-n.result c.node-n.ensures Left _ refl in
-    pop_ready _ _ _ _ c.requires.1 _ c.node-n.result o _ c.in-Some.is _ _ _ _ c.pop_first-first.ensures _ c.fork.ensures
+    let o = opens c.requires.1 refl c.node-n.result c.node-n.ensures Left refl in
+    pop_ready c.requires.1 c.node-n.result o c.in-Some.is c.pop_first-first.ensures c.fork.ensures
 
 pub returns-in-Some : goal.returns-in-Some
 returns-in-Some g t c x F =
-    let o = opens _ _ _ _ F c.args.root refl c.node-n.result c.node-n.ensures Left _ refl in
-    pop_back _ _ _ _ F _ c.node-n.result o _ c.in-Some.is _ _ _ _ c.pop_first-first.ensures _ _ _ c.fork.ensures c.balance-top.ensures
+    let o = opens F refl c.node-n.result c.node-n.ensures Left refl in
+    pop_back F c.node-n.result o c.in-Some.is c.pop_first-first.ensures c.fork.ensures c.balance-top.ensures
 
 pub returns-in-None : goal.returns-in-None
 returns-in-None g t c x F =
-    let o = opens _ _ _ _ F c.args.root refl c.node-n.result c.node-n.ensures Left _ refl in
-    pop_end _ _ _ _ F _ c.node-n.result o c.in-None.is
+    let o = opens F refl c.node-n.result c.node-n.ensures Left refl in
+    pop_end F c.node-n.result o c.in-None.is
