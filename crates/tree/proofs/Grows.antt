@@ -1,5 +1,6 @@
 -- The steps of an insertion.
 use Rattle.std.proofs.Common.{◌≡◌, ℕ, ◌<◌, Bool, true, false, cond, ◌⊎◌, List, [], ◌∷◌, ◌++◌, Some, None, Option, sym, refl, ap, ◌∙◌, subst, inl, inr, arith}
+use Rattle.std.proofs.lemmas.Option.{none-some}
 use Rattle.std.specs.Cmp.{IsTotalOrder}
 use Rattle.tree.specs.declared.fork.Fork.{Fork}
 use Rattle.tree.specs.declared.node.Node.{Node}
@@ -14,7 +15,7 @@ use Rattle.tree.specs.Sides.{fork_of, between, side_of}
 use Rattle.tree.specs.Sound.{Sound}
 use Rattle.tree.proofs.Descends.{onto, opens_row, falls, ready_back, changed_back, rises, sound_near}
 use Rattle.tree.proofs.Mirrors.{in_near, row_over, Parted, put_over}
-use Rattle.tree.proofs.Ordered.{No, Goes, first_between, side_same, goes_not, no_far, placed_between, same_at, first_here, no_left, some_none}
+use Rattle.tree.proofs.Ordered.{No, Goes, first_between, side_same, goes_not, no_far, placed_between, same_at, first_here, no_left}
 use Rattle.tree.proofs.Trees.{none_leaf}
 
 module _ {E K : Type 0} (O : Order E K) where
@@ -58,7 +59,8 @@ module _ {E K Z : Type 0} {M : Z → List E → Type 0} {O : Order E K} (L : IsT
         let f = fork_of at Left n in
         let r : Rising (by_entry O) (row o.a ++ ((at, n.entry) ∷ row o.b)) = rises L S o in
         let q = side_same O (O.key e) (O.key n.entry) h in
-        some_none (at, n.entry) (sym (first_here (at_key (by_entry O) (O.key e)) (row o.a) (at, n.entry) (row o.b) (no_left (by_entry O) L (O.key e) (row o.a) (at, n.entry) (row o.b) r q) (same_at (by_entry O) (O.key e) (at, n.entry) q)) ∙ sym (ap (find (at_key (by_entry O) (O.key e))) (opens_row S.fit o)) ∙ F.absent)
+        let P = at_key (by_entry O) (O.key e) in
+        none-some (at, n.entry) (sym F.absent ∙ ap (find P) (opens_row S.fit o) ∙ first_here P (row o.a) (at, n.entry) (row o.b) (no_left (by_entry O) L (O.key e) (row o.a) (at, n.entry) (row o.b) r q) (same_at (by_entry O) (O.key e) (at, n.entry) q))
 
     module _ {f : Fork E} (o : Parted M xs f t) (g : Goes O f.side (O.key e) (O.key f.entry)) where
       none_far : No (at_key (by_entry O) (O.key e)) (row o.b)

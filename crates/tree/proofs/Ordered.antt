@@ -4,8 +4,9 @@ use Rattle.std.proofs.lemmas.Bool.{both_ways, cond-true, cond-false}
 use Rattle.std.proofs.lemmas.Cmp.{alike_right}
 use Rattle.std.proofs.lemmas.Grind.{flat_map-append}
 use Rattle.std.proofs.lemmas.List.Folds.{find-append}
+use Rattle.std.proofs.lemmas.Option.{none-some, same_Some}
 use Rattle.std.specs.List.Sorted.{IsStrictlySortedBy}
-use Rattle.std.specs.Cmp.{IsTotalOrder}
+use Rattle.std.specs.Cmp.{IsTotalOrder, Equal-is}
 use Rattle.std.specs.Option.{option_or}
 use Rattle.std.specs.Ordering.{is_lt, is_eq, ordering_reverse}
 use Rattle.std.specs.List.{AllByRecursion}
@@ -22,12 +23,6 @@ use Rattle.tree.specs.Sides.{opposite, between, side_of}
 abbrev pub No : {A : Type 0} → (A → Bool) → List A → Type 0
 No P es = AllByRecursion (λ e. P e ≡ false) es
 
-pub some_same : {A : Type 0} (x y : A) → Some x ≡ Some y → x ≡ y
-some_same x y e = cc
-
-pub some_none : {A : Type 0} (x : A) → Some x ≡ None → ⊥
-some_none x e = let z : true ≡ false = cc in both_ways false refl (sym z)
-
 -- ---- what is looked for, and what is done to what passes a test
 module _ {A : Type 0} (P : A → Bool) where
   pub first_no : (xs : List A) → No P xs → find P xs ≡ None
@@ -39,7 +34,7 @@ module _ {A : Type 0} (P : A → Bool) where
   no_first (x ∷ xs) h = go (P x) refl h (no_first xs)
     where
       go : (b : Bool) → P x ≡ b → cond b (Some x) (find P xs) ≡ None → (find P xs ≡ None → No P xs) → (P x ≡ false) × No P xs
-      go true q e ih = absurd (some_none x e)
+      go true q e ih = absurd (none-some x (sym e))
       go false q e ih = (q, ih e)
 
   or_none : (o : Option A) → option_or o None ≡ o
@@ -94,11 +89,6 @@ lt_less Less h = refl
 lt_less Equal h = cc
 lt_less Greater h = cc
 
-eq_equal : (r : Ordering) → is_eq r ≡ true → r ≡ Equal
-eq_equal Less h = cc
-eq_equal Equal h = refl
-eq_equal Greater h = cc
-
 same_of : (r : Ordering) → side_of r ≡ None → r ≡ Equal
 same_of Less h = cc
 same_of Equal h = refl
@@ -118,16 +108,16 @@ module _ {A K : Type 0} (O : Order A K) where
   same_at k e q = ap is_eq q
 
   pub at_same : (k : K) (e : A) → at_key O k e ≡ true → O.cmp k (O.key e) ≡ Equal
-  at_same k e h = eq_equal (O.cmp k (O.key e)) h
+  at_same k e h = (Equal-is (O.cmp k (O.key e))).0 h
 
 module _ {A K : Type 0} (O : Order A K) (L : IsTotalOrder O.cmp) where
   turned : (a b : K) → O.cmp a b ≡ Less → O.cmp b a ≡ Greater
   turned a b h = L.antisymm b a ∙ ap ordering_reverse h
 
   goes_by : (k a : K) (r : Ordering) → O.cmp k a ≡ r → (side : Side) → side_of r ≡ Some side → Goes O side k a
-  goes_by k a Less q side h = subst (λ (s : Side). Goes O s k a) (some_same Left side h) q
-  goes_by k a Equal q side h = absurd (some_none side (sym h))
-  goes_by k a Greater q side h = subst (λ (s : Side). Goes O s k a) (some_same Right side h) (L.antisymm a k ∙ ap ordering_reverse q)
+  goes_by k a Less q side h = subst (λ (s : Side). Goes O s k a) (same_Some Left side h) q
+  goes_by k a Equal q side h = absurd (none-some side h)
+  goes_by k a Greater q side h = subst (λ (s : Side). Goes O s k a) (same_Some Right side h) (L.antisymm a k ∙ ap ordering_reverse q)
 
   pub side_goes : (k a : K) (side : Side) → side_of (O.cmp k a) ≡ Some side → Goes O side k a
   side_goes k a side h = goes_by k a (O.cmp k a) refl side h
@@ -229,11 +219,11 @@ module _ {A K : Type 0} (O : Order A K) (L : IsTotalOrder O.cmp) where
     pub no_after : No (at_key O k) after
 
   split : (P : A → Bool) (es : List A) (p : A) → find P es ≡ Some p → (xs : List A) × (ys : List A) × (es ≡ xs ++ (p ∷ ys)) × (P p ≡ true)
-  split P [] p h = absurd (some_none p (sym h))
+  split P [] p h = absurd (none-some p h)
   split P (e ∷ es) p h = go (P e) refl h (split P es p)
     where
       go : (b : Bool) → P e ≡ b → cond b (Some e) (find P es) ≡ Some p → (find P es ≡ Some p → (xs : List A) × (ys : List A) × (es ≡ xs ++ (p ∷ ys)) × (P p ≡ true)) → (xs : List A) × (ys : List A) × (e ∷ es ≡ xs ++ (p ∷ ys)) × (P p ≡ true)
-      go true q i ih = let s = some_same e p i in ([], es, ap (λ (x : A). x ∷ es) s, subst (λ (x : A). P x ≡ true) s q)
+      go true q i ih = let s = same_Some e p i in ([], es, ap (λ (x : A). x ∷ es) s, subst (λ (x : A). P x ≡ true) s q)
       go false q i ih = let r = ih i in (e ∷ r.0, r.1, ap (λ (u : List A). e ∷ u) r.2, r.3)
 
   pub found : (k : K) (es : List A) (p : A) → Rising O es → find (at_key O k) es ≡ Some p → Found k es p

@@ -1,5 +1,6 @@
 -- The steps of a removal.
 use Rattle.std.proofs.Common.{◌≡◌, ℕ, ◌<◌, false, List, [], ◌∷◌, ◌++◌, Some, None, Option, sym, refl, ap, ◌∙◌, subst, inl, inr, arith}
+use Rattle.std.proofs.lemmas.Option.{same_Some}
 use Rattle.std.specs.Cmp.{IsTotalOrder}
 use Rattle.tree.specs.declared.fork.Fork.{Fork}
 use Rattle.tree.specs.declared.node.Node.{Node}
@@ -15,7 +16,7 @@ use Rattle.tree.specs.Sound.{Fit, Sound}
 use Rattle.tree.proofs.Descends.{onto, ready_again, joined_heights, opens_row, opens_level, opens_tall, opens_once, fit_near, falls, ready_back, changed_back, rises, sound_near}
 use Rattle.tree.proofs.Kept.{out_row, out_once}
 use Rattle.tree.proofs.Mirrors.{row_over, Parted}
-use Rattle.tree.proofs.Ordered.{No, Goes, first_between, edited_between, side_same, goes_not, no_far, same_at, first_here, edited_here, no_left, no_right, some_same, found}
+use Rattle.tree.proofs.Ordered.{No, Goes, first_between, edited_between, side_same, goes_not, no_far, same_at, first_here, edited_here, no_left, no_right, found}
 use Rattle.tree.proofs.Slots.{in_right, distinct_out, distinct_right}
 use Rattle.tree.proofs.Trees.{none_leaf, in_within, frame_then, frame_wider, frame_none}
 
@@ -183,5 +184,5 @@ module _ {E K Z : Type 0} {M : Z → List E → Type 0} {O : Order E K} (L : IsT
             j.0,
             record { stands = j.1.stands; avl = j.1.avl; frame = j.1.frame; lower = omega arith; taller = omega arith },
             j.1.order ∙ sym (ap (without P) w ∙ edited_here P (λ x. []) (row o.a) (at, n.entry) (row o.b) nl here_at nr),
-            some_same p (at, n.entry) (sym here ∙ ap (find P) w ∙ first_here P (row o.a) (at, n.entry) (row o.b) nl here_at),
+            same_Some p (at, n.entry) (sym here ∙ ap (find P) w ∙ first_here P (row o.a) (at, n.entry) (row o.b) nl here_at),
           )

@@ -20,6 +20,7 @@ pub(crate) struct Taken<E> {
     pub(crate) entry: E,
 }
 
+// These call themselves on subtrees, so their clauses tell what stands at a link, and not the value of a tree.
 impl<E: Entry> Nodes<'_, E> {
     // Puts an entry whose key is not there into the tree at `root`, in a free slot, and returns the new root.
     pub(crate) fn insert(&mut self, root: Option<usize>, slot: usize, entry: E) -> usize

@@ -50,7 +50,7 @@ impl<E: Entry> Nodes<'_, E> {
         }
     }
 
-    // Writes a record at a slot. That is where the table's length is read, so callers learn how large it can be.
+    // Writes a record at a slot. None past the end is ever given: the test is there to learn how long a table can be.
     fn set(&mut self, at: usize, node: Node<E, E::Summary>)
         ensures written { self.new.table.now ≡ slice_set self.old.table.now at node }
         ensures small { length self.old.table.now < 2 ^ 64 }
