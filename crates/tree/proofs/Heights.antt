@@ -3,7 +3,7 @@ use Rattle.std.proofs.Common.{◌≡◌, ℕ, zero, suc, ◌+◌, ◌-◌, ◌*�
 use native.Mathlib.Decide.{dec_le, ℕ_discrete}
 use Rattle.tree.specs.declared.node.Node.{Node}
 use Rattle.tree.specs.Heights.{fib_from, fib}
-use Rattle.tree.specs.Shape.{Shape, leaf, node, none, tall, row, In, Distinct, Balanced, Linked}
+use Rattle.tree.specs.Shape.{Shape, leaf, node, tall, row, In, Distinct, Balanced, Linked}
 use Rattle.tree.proofs.Slots.{parts, in_parts, in_out, distinct_out}
 use Rattle.tree.proofs.Trees.{in_within}
 
@@ -95,7 +95,7 @@ fib_square (suc (suc n)) =
     omega (arith, m, h)
 
 -- a height fits a byte
-pub low : {E Z : Type 0} (M : Z → List E → Type 0) (xs : List (Node E Z)) (t : Shape E) → length xs ≤ none → Balanced tall t → Distinct (row t) → Linked M xs t → tall t < 254
+pub low : {E Z : Type 0} (M : Z → List E → Type 0) (xs : List (Node E Z)) (t : Shape E) → length xs < 2 ^ 64 → Balanced tall t → Distinct (row t) → Linked M xs t → tall t < 254
 low M xs t small v d h = elim (dec_le 254 (tall t)) [
   | yes g ↦ let le : 256 ≤ tall t + 2 = omega arith in absurd (omega (arith, fib_le 256 (tall t + 2) le, fewest t v, few (length xs) (row t) d (λ k i. in_within M xs k t h i)))
   | no g ↦ omega arith

@@ -1,5 +1,8 @@
 -- Rows in which the entry of a key is taken out, or gets another place.
-use Rattle.std.proofs.Common.{◌≡◌, ℕ, ◌<◌, ◌⊎◌, List, [], ◌∷◌, ◌++◌, length, Some, None, Option, unwrap_or, sym, ◌∙◌, subst, inl, inr}
+use Rattle.std.proofs.Common.{◌≡◌, ℕ, ◌<◌, ◌⊎◌, List, [], ◌∷◌, ◌++◌, length, Some, None, Option, unwrap_or, sym, subst, inl, inr}
+use Rattle.std.proofs.lemmas.Cmp.{tied_back}
+use Rattle.std.specs.Cmp.{IsTotalOrder}
+use Rattle.std.specs.declared.cmp.Ordering.TheVariants.{Equal}
 use Rattle.tree.specs.declared.node.Node.{Node}
 use Rattle.tree.specs.Changes.{Unused, reseated}
 use Rattle.tree.specs.Lists.{without}
@@ -21,9 +24,9 @@ pub seat_new : {E Z : Type 0} (xs : List (Node E Z)) (to : Option ℕ) (ps qs : 
 seat_new xs (Some s) ps qs old u inc n h = u.1 (inc s h)
 seat_new xs None ps qs old u inc n h = n h
 
-module _ {E K : Type 0} (O : Order E K) (k : K) (ps : List (ℕ × E)) (p : ℕ × E) (once : Distinct ps) (F : Found (by_entry O) k ps p) where
+module _ {E K : Type 0} (O : Order E K) (L : IsTotalOrder O.cmp) (k : K) (ps : List (ℕ × E)) (p : ℕ × E) (once : Distinct ps) (F : Found (by_entry O) L k ps p) where
   pub out_row : without (at_key (by_entry O) k) ps ≡ F.before ++ F.after
-  out_row = found_edited (by_entry O) k ps p (λ q. []) F
+  out_row = found_edited (by_entry O) L k ps p (λ q. []) F
 
   cut_once : Distinct (F.before ++ (p ∷ F.after))
   cut_once = subst Distinct F.is once
@@ -38,7 +41,7 @@ module _ {E K : Type 0} (O : Order E K) (k : K) (ps : List (ℕ × E)) (p : ℕ 
   out_once = distinct_out F.before p F.after cut_once
 
   pub out_rising : Rising (by_entry O) ps → Rising (by_entry O) (F.before ++ F.after)
-  out_rising r = rising_out (by_entry O) F.before p F.after (subst (Rising (by_entry O)) F.is r)
+  out_rising r = rising_out (by_entry O) L F.before p F.after (subst (Rising (by_entry O)) F.is r)
 
   pub left_over : (j : ℕ) → In j ps → (j ≡ p.0) ⊎ In j (F.before ++ F.after)
   left_over j i = in_drop j F.before p F.after (subst (In j) F.is i)
@@ -47,7 +50,7 @@ module _ {E K : Type 0} (O : Order E K) (k : K) (ps : List (ℕ × E)) (p : ℕ 
   swap_once xs to e u = distinct_in F.before (unwrap_or to p.0, e) F.after out_once (seat_new xs to ps (F.before ++ F.after) p.0 u out_in out_new)
 
   pub swap_rising : (s : ℕ) (e : E) → O.key e ≡ k → Rising (by_entry O) ps → Rising (by_entry O) (F.before ++ ((s, e) ∷ F.after))
-  swap_rising s e q r = rising_swap (by_entry O) F.before p (s, e) F.after (F.here ∙ sym q) (subst (Rising (by_entry O)) F.is r)
+  swap_rising s e q r = rising_swap (by_entry O) L F.before p (s, e) F.after (subst (λ (a : K). O.cmp (O.key p.1) a ≡ Equal) (sym q) (tied_back L k (O.key p.1) F.here)) (subst (Rising (by_entry O)) F.is r)
 
-pub swap_row : {E K : Type 0} (O : Order E K) (ps : List (ℕ × E)) (p : ℕ × E) (to : Option ℕ) (e : E) (F : Found (by_entry O) (O.key e) ps p) → reseated O to e ps ≡ F.before ++ ((unwrap_or to p.0, e) ∷ F.after)
-swap_row O ps p to e F = found_edited (by_entry O) (O.key e) ps p (λ q. (unwrap_or to q.0, e) ∷ []) F
+pub swap_row : {E K : Type 0} (O : Order E K) (L : IsTotalOrder O.cmp) (ps : List (ℕ × E)) (p : ℕ × E) (to : Option ℕ) (e : E) (F : Found (by_entry O) L (O.key e) ps p) → reseated O to e ps ≡ F.before ++ ((unwrap_or to p.0, e) ∷ F.after)
+swap_row O L ps p to e F = found_edited (by_entry O) L (O.key e) ps p (λ q. (unwrap_or to q.0, e) ∷ []) F

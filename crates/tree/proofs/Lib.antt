@@ -1,4 +1,3 @@
-pub mod Empty
 pub mod Descends
 pub mod Grows
 pub mod Heights

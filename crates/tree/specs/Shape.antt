@@ -1,7 +1,8 @@
 -- A binary tree of entries, each at a slot of a table of records, and how the records hold it. Assumes nothing.
-use Rattle.std.specs.Prelude.{◌≡◌, ℕ, zero, suc, ◌+◌, ◌<◌, ◌≤◌, max, ◌⊎◌, List, [], ◌∷◌, ◌++◌, map, length, slice_index_or}
+use Rattle.std.specs.Prelude.{◌≡◌, ℕ, ◌+◌, ◌<◌, ◌≤◌, max, ◌⊎◌, List, [], ◌∷◌, ◌++◌, map, length, slice_get, slice_index_or, Some, None, Option}
+use Rattle.std.specs.Option.{option_map, option_and_then, unwrap_or}
+use Rattle.tree.specs.declared.fork.Fork.{Fork}
 use Rattle.tree.specs.declared.node.Node.{Node}
-use Rattle.tree.specs.declared.side.Side.{Side}
 use Rattle.tree.specs.Orders.{Order}
 use Rattle.tree.specs.Sides.{pick}
 
@@ -10,21 +11,17 @@ pub data Shape (E : Type 0) : Type 0 where
   leaf : Shape E
   node : Shape E → ℕ → E → Shape E → Shape E
 
--- the link to no node
-abbrev pub none : ℕ
-none = 18446744073709551615
-
-abbrev pub link : {E : Type 0} → Shape E → ℕ
-link leaf = none
-link (node l s e r) = s
+abbrev pub link : {E : Type 0} → Shape E → Option ℕ
+link leaf = None
+link (node l s e r) = Some s
 
 abbrev pub tall : {E : Type 0} → Shape E → ℕ
 tall leaf = 0
 tall (node l s e r) = max (tall l) (tall r) + 1
 
--- the tree of a root with a subtree on the side, and one on the other
-abbrev pub sided : {E : Type 0} → Side → Shape E → ℕ → E → Shape E → Shape E
-sided side near s e far = node (pick side near far) s e (pick side far near)
+-- the tree of a fork with a subtree on its side, and one on the other
+abbrev pub over : {E : Type 0} → Fork E → Shape E → Shape E → Shape E
+over f near far = node (pick f.side near far) f.at f.entry (pick f.side far near)
 
 -- each slot with its entry, in order
 abbrev pub row : {E : Type 0} → Shape E → List (ℕ × E)
@@ -36,7 +33,7 @@ ents ps = map (λ p. p.1) ps
 
 -- slots with entries, in the order of the entries
 abbrev pub by_entry : {E K : Type 0} → Order E K → Order (ℕ × E) K
-by_entry O = record { key = λ p. O.key p.1; less = O.less; irreflexive = O.irreflexive; transitive = O.transitive; total = O.total }
+by_entry O = record { key = λ p. O.key p.1; cmp = O.cmp }
 
 -- the slot k stands in the row
 abbrev pub In : {E : Type 0} → ℕ → List (ℕ × E) → Type 0
@@ -70,11 +67,13 @@ Linked M xs leaf = Unit {0}
 Linked M xs (node l s e r) = Recorded M xs s e l r × Linked M xs l × Linked M xs r
 
 -- the tree t stands at the link k
-abbrev pub Stands : {E Z : Type 0} → (Z → List E → Type 0) → List (Node E Z) → ℕ → Shape E → Type 0
+abbrev pub Stands : {E Z : Type 0} → (Z → List E → Type 0) → List (Node E Z) → Option ℕ → Shape E → Type 0
 Stands M xs k t = (k ≡ link t) × Linked M xs t
 
--- the height that is stored at a link, 0 where that is no slot
-abbrev pub stored_height : {E Z : Type 0} → List (Node E Z) → ℕ → ℕ
-stored_height [] k = 0
-stored_height (n ∷ xs) zero = n.height
-stored_height (n ∷ xs) (suc k) = stored_height xs k
+-- the record at a link, none also where that is no slot
+abbrev pub stored : {E Z : Type 0} → List (Node E Z) → Option ℕ → Option (Node E Z)
+stored xs k = option_and_then (slice_get xs) k
+
+-- the height that is stored at a link, 0 where there is no node
+abbrev pub stored_height : {E Z : Type 0} → List (Node E Z) → Option ℕ → ℕ
+stored_height xs k = unwrap_or (option_map (λ n. n.height) (stored xs k)) 0

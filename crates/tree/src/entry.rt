@@ -1,29 +1,24 @@
 // What a tree holds, and tests of it.
 ghost use Rattle.std.specs.Prelude.{◌≡◌, Bool, List, [], ◌∷◌, ◌++◌};
-ghost use Rattle.tree.specs.Orders.{Order};
-ghost use Rattle.tree.specs.Lists.{any_of};
+ghost use Rattle.std.specs.List.{list_any};
 
 /// An entry of a tree: it has a key, the tree stands in the order of the keys, and each subtree has a summary.
 pub trait Entry: Copy {
     /// What entries are found by and stand in the order of.
-    type Key: Copy;
+    type Key: Copy + Ord;
 
     /// What is known of the entries of a subtree together; `()` where nothing is wanted.
     type Summary: Copy;
 
-    // The key of each entry, and a strict total order of the keys.
-    ghost order: { Order Self Self.Key };
+    // The key of each entry.
+    ghost key: { Self → Self.Key };
 
     // The summary is right for these entries, in their order.
     ghost sums: { Self.Summary → List Self → Type 0 };
 
     /// The entry's key.
     fn key(self) -> Self::Key
-        ensures { result ≡ order.key self };
-
-    /// Whether the one key stands strictly before the other.
-    fn precedes(a: Self::Key, b: Self::Key) -> bool
-        ensures { result ≡ order.less a b };
+        ensures { result ≡ key self };
 
     /// The summary of no entries.
     fn nothing() -> Self::Summary
@@ -48,5 +43,5 @@ pub trait Probe<E: Entry> {
 
     /// Whether some entry passes of any list that the summary is right for.
     fn some_pass(&self, summary: E::Summary) -> bool
-        ensures { (es : List E) → E.Entry.sums summary es → result ≡ any_of (passes self.now) es };
+        ensures { (es : List E) → E.Entry.sums summary es → result ≡ list_any (passes self.now) es };
 }

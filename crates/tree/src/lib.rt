@@ -5,8 +5,8 @@
 mod balance;
 mod change;
 pub mod entry;
+mod fork;
 pub mod node;
 mod nodes;
-mod search;
 mod side;
 pub mod tree;

@@ -1,20 +1,19 @@
 // The records of which a table is made.
 ghost use Rattle.std.specs.Prelude.{◌≡◌, [], ◌∷◌};
-ghost use Rattle.tree.specs.Sides.{near_of, far_of};
-ghost use Rattle.tree.specs.Shape.{none};
+ghost use Rattle.tree.specs.Sides.{fork_of};
 
 use crate::entry::Entry;
+use crate::fork::Fork;
 use crate::side::Side;
 
-// The link to no node: it is the index of no record, since a table is never so long.
-pub(crate) const NONE: usize = usize::MAX;
-
 /// A record of a table: an entry, the links to its subtrees, and the height and the summary of the tree below it.
+// A link is the index of a record: no heap may be used, so a node cannot own its subtrees, and the table is lent.
+// The summary's type is a parameter, since a record is copied, and what has an associated type in it is not.
 #[derive(Clone, Copy)]
 pub struct Node<E, S> {
     pub(crate) entry: E,
-    pub(crate) left: usize,
-    pub(crate) right: usize,
+    pub(crate) left: Option<usize>,
+    pub(crate) right: Option<usize>,
     pub(crate) height: u8,
     pub(crate) summary: S,
 }
@@ -23,32 +22,30 @@ impl<E: Entry> Node<E, E::Summary> {
     /// The record of one entry with nothing below it, to make a table of.
     pub fn blank(entry: E) -> Node<E, E::Summary>
         ensures entry { result.entry ≡ entry }
-        ensures alone { (result.left ≡ none) × (result.right ≡ none) × (result.height ≡ 1) }
+        ensures alone { (result.left ≡ None) × (result.right ≡ None) × (result.height ≡ 1) }
         ensures summary { E.sums result.summary (entry ∷ []) }
     {
-        let summary = entry.summary();
         Node {
             entry,
-            left: NONE,
-            right: NONE,
+            left: None,
+            right: None,
             height: 1,
-            summary,
+            summary: entry.summary(),
         }
     }
 }
 
 impl<E: Copy, S: Copy> Node<E, S> {
-    // The link to the subtree on a side.
-    pub(crate) fn near(self, side: Side) -> usize
-        ensures { result ≡ near_of side self }
+    // The node at a slot, seen from a side.
+    pub(crate) fn fork(self, at: usize, side: Side) -> Fork<E>
+        ensures { result ≡ fork_of at side self }
     {
-        side.leftmost(self.left, self.right)
-    }
-
-    // The link to the subtree on the other side.
-    pub(crate) fn far(self, side: Side) -> usize
-        ensures { result ≡ far_of side self }
-    {
-        side.leftmost(self.right, self.left)
+        Fork {
+            at,
+            entry: self.entry,
+            side,
+            near: side.leftmost(self.left, self.right),
+            far: side.leftmost(self.right, self.left),
+        }
     }
 }

@@ -4,6 +4,7 @@ ghost use Rattle.std.specs.Prelude.{◌≡◌};
 ghost use Rattle.tree.specs.Sides.{pick, opposite, side_of};
 
 use crate::entry::Entry;
+use std::cmp::Ordering;
 
 #[derive(Clone, Copy)]
 pub(crate) enum Side {
@@ -22,7 +23,7 @@ impl Side {
     }
 
     // Of what belongs on this side and on the other, that on the left.
-    pub(crate) fn leftmost(self, near: usize, far: usize) -> usize
+    pub(crate) fn leftmost(self, near: Option<usize>, far: Option<usize>) -> Option<usize>
         ensures { result ≡ pick self near far }
     {
         match self {
@@ -34,14 +35,11 @@ impl Side {
 
 // The side of an entry on which a key belongs, and none where it is the entry's own.
 pub(crate) fn side_of<E: Entry>(key: E::Key, entry: E) -> Option<Side>
-    ensures { result ≡ side_of E.order key (E.order.key entry) }
+    ensures { result ≡ side_of (E.Key.cmp key (E.key entry)) }
 {
-    let own = entry.key();
-    if E::precedes(key, own) {
-        Some(Side::Left)
-    } else if E::precedes(own, key) {
-        Some(Side::Right)
-    } else {
-        None
+    match key.cmp(&entry.key()) {
+        Ordering::Less => Some(Side::Left),
+        Ordering::Equal => None,
+        Ordering::Greater => Some(Side::Right),
     }
 }

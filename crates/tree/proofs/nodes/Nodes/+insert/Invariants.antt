@@ -1,5 +1,5 @@
 use Rattle.tree.specs.Shape.{stored_height}
-use Rattle.tree.proofs.change.Nodes+E+E+Summary.+insert.Given as goal
+use Rattle.tree.proofs.nodes.Nodes.+insert.Given as goal
 
 abbrev pub decreases-insert : goal.decreases-insert
 decreases-insert g l = stored_height l.self.now.table.now l.root
