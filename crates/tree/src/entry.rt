@@ -1,6 +1,7 @@
 // What a tree holds, and tests of it.
 ghost use Rattle.std.specs.Prelude.{◌≡◌, Bool, List, [], ◌∷◌, ◌++◌};
 ghost use Rattle.std.specs.List.{list_any};
+ghost use Rattle.std.specs.declared.cmp.Ordering.TheVariants.{Equal};
 
 /// An entry of a tree: it has a key, the tree stands in the order of the keys, and each subtree has a summary.
 pub trait Entry: Copy {
@@ -31,6 +32,9 @@ pub trait Entry: Copy {
     /// The summary of two lists of entries end to end, from theirs.
     fn join(a: Self::Summary, b: Self::Summary) -> Self::Summary
         ensures { (xs ys : List Self) → sums a xs → sums b ys → sums result (xs ++ ys) };
+
+    // Keys that compare as equal are one.
+    ghost apart: { (a b : Self.Key) → Self.Key.cmp a b ≡ Equal → a ≡ b };
 }
 
 /// A test of entries that a summary answers for all those that it is right for.
