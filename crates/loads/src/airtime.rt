@@ -119,7 +119,7 @@ impl Kind for Airtime {
     }
 
     fn read(bytes: &[u8]) -> Result<Self::Load, LoadFault> {
-        let (rate, _) = split_u32(bytes).ok_or(LoadFault::Short)?;
+        let (rate, _) = split_u32(bytes).ok_or(Short)?;
         Ok(AirtimeLoad::try_from(rate)?)
     }
 }

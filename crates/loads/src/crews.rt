@@ -106,7 +106,7 @@ impl Kind for Crews {
     }
 
     fn read(bytes: &[u8]) -> Result<Self::Load, LoadFault> {
-        let front = bytes.first_chunk().ok_or(LoadFault::Short)?;
+        let front = bytes.first_chunk().ok_or(Short)?;
         Ok(CrewsLoad::from(u64::from_be_bytes(*front)))
     }
 }

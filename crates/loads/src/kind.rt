@@ -33,7 +33,7 @@ pub trait Kind {
     /// The kind's own form of load; two loads are equal when all their counts are.
     type Load: Copy + Eq;
 
-    /// The number with which the kind's profiles begin, 1 to 127.
+    /// The byte with which the kind's profiles begin, 1 to 127.
     const MARK: u8;
 
     ghost MARK: { ℕ };

@@ -9,6 +9,7 @@ const LAST_INSTITUTE: u32 = 999;
 const LAST_SERIAL: u32 = 9_999_999;
 
 /// Names one booking: the institute that asks, and the serial that it gave.
+// The derived order takes the fields as they stand: by institute, and then by serial.
 #[derive(Clone, Copy, PartialEq, Eq, PartialOrd, Ord, Debug)]
 pub struct Reference {
     institute: u16,
@@ -48,7 +49,8 @@ impl Reference {
         self.serial
     }
 
-    /// By institute, and within an institute by serial.
+    /// By institute, and within an institute by serial. This call and the next two say what the derived `cmp`, `<` and
+    /// `==` mean, in plain numbers.
     pub fn compare(self, other: Reference) -> Ordering
         ensures told { result ≡ ref_order (ref_of self) (ref_of other) }
         ensures lawful { RefOrderLaw }

@@ -49,7 +49,7 @@ pub fn from_hex(heap: Global, digits: &[u8]) -> Result<Option<Vec<u8>>, AllocErr
     Ok(Some(bytes))
 }
 
-// The digit that stands for a value.
+// The digit that stands for a value; beside `digit_value`, since one law is about both directions.
 fn digit_of(value: u8) -> u8
     requires { value < 16 }
     ensures { result ≡ hex_digit value }
