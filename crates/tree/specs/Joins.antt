@@ -14,6 +14,7 @@ pub record Putted {E Z : Type 0} (M : Z → List E → Type 0) (xs : List (Node 
   pub sum : Z
   -- so heights fit a byte
   pub small : length xs < 2 ^ 64
+  pub long : length ys ≡ length xs
   pub is : f.at < length xs → stored_height xs f.near < 255 → stored_height xs f.far < 255 → ys ≡ slice_set xs f.at (record_of xs f sum)
   pub sums : (l r : Shape E) → Stands M xs (left_of f) l → Stands M xs (right_of f) r → M sum (ents (row (node l f.at f.entry r)))
 

@@ -16,7 +16,7 @@ order_by key cmp = record { key = key; cmp = cmp }
 abbrev pub past : {A K : Type 0} → Order A K → K → A → Bool
 past O k e = is_lt (O.cmp k (O.key e))
 
--- the entry has the key k: it stands neither past it nor before it
+-- the entry has the key k: the two compare as equal
 abbrev pub at_key : {A K : Type 0} → Order A K → K → A → Bool
 at_key O k e = is_eq (O.cmp k (O.key e))
 

@@ -1,5 +1,5 @@
 // Putting entries in, taking them out, and writing one in another's place.
-ghost use Rattle.std.specs.Prelude.{◌≡◌, ℕ, ◌<◌, ◌∷◌, ◌++◌};
+ghost use Rattle.std.specs.Prelude.{◌≡◌, ℕ, ◌∷◌};
 ghost use Rattle.std.specs.List.{find};
 ghost use Rattle.tree.specs.Orders.{order_by, at_key};
 ghost use Rattle.tree.specs.Lists.{placed, without};
@@ -20,7 +20,7 @@ pub(crate) struct Taken<E> {
     pub(crate) entry: E,
 }
 
-// These call themselves on subtrees, so their clauses tell what stands at a link, and not the value of a tree.
+// Most of these call themselves on subtrees, so their clauses tell what stands at a link, and not the value of a tree.
 impl<E: Entry> Nodes<'_, E> {
     // Puts an entry whose key is not there into the tree at `root`, in a free slot, and returns the new root.
     pub(crate) fn insert(&mut self, root: Option<usize>, slot: usize, entry: E) -> usize
@@ -47,7 +47,7 @@ impl<E: Entry> Nodes<'_, E> {
                     ..top
                 })
             }
-            None => at,
+            None => unreachable!(),
         }
     }
 

@@ -18,13 +18,13 @@ impl<E: Copy> Fork<E> {
     pub(crate) fn left(self) -> Option<usize>
         ensures { result ≡ left_of self }
     {
-        self.side.leftmost(self.near, self.far)
+        self.side.pick(self.near, self.far)
     }
 
     pub(crate) fn right(self) -> Option<usize>
         ensures { result ≡ right_of self }
     {
-        self.side.leftmost(self.far, self.near)
+        self.side.pick(self.far, self.near)
     }
 
     // The same, seen from the other side.

@@ -44,8 +44,8 @@ impl<E: Copy, S: Copy> Node<E, S> {
             at,
             entry: self.entry,
             side,
-            near: side.leftmost(self.left, self.right),
-            far: side.leftmost(self.right, self.left),
+            near: side.pick(self.left, self.right),
+            far: side.pick(self.right, self.left),
         }
     }
 }

@@ -1,5 +1,5 @@
 // The records of a tree in the table that was lent for it.
-ghost use Rattle.std.specs.Prelude.{◌≡◌, ◌^◌, ◌<◌, List, length, slice_index_or, slice_set};
+ghost use Rattle.std.specs.Prelude.{◌≡◌, ◌<◌, length, slice_index_or};
 ghost use Rattle.tree.specs.Shape.{Shape, ents, row, stored, stored_height, Stands};
 ghost use Rattle.tree.specs.Joins.{Putted};
 
@@ -13,12 +13,6 @@ pub(crate) struct Nodes<'t, E: Entry> {
 }
 
 impl<E: Entry> Nodes<'_, E> {
-    pub(crate) fn len(&self) -> usize
-        ensures { result ≡ length self.now.table.now }
-    {
-        self.table.len()
-    }
-
     pub(crate) fn node(&self, i: usize) -> Node<E, E::Summary>
         requires { i < length self.now.table.now }
         ensures { result ≡ slice_index_or self.now.table.now i result }
@@ -41,7 +35,7 @@ impl<E: Entry> Nodes<'_, E> {
     }
 
     // The summary of the tree at a link.
-    pub(crate) fn summary(&self, link: Option<usize>) -> E::Summary
+    fn summary(&self, link: Option<usize>) -> E::Summary
         ensures { (t : Shape E) → Stands E.sums self.now.table.now link t → E.sums result (ents (row t)) }
     {
         match self.linked(link) {
@@ -50,18 +44,9 @@ impl<E: Entry> Nodes<'_, E> {
         }
     }
 
-    // Writes a record at a slot. None past the end is ever given: the test is there to learn how long a table can be.
-    fn set(&mut self, at: usize, node: Node<E, E::Summary>)
-        ensures written { self.new.table.now ≡ slice_set self.old.table.now at node }
-        ensures small { length self.old.table.now < 2 ^ 64 }
-    {
-        if at < self.len() {
-            self.table[at] = node;
-        }
-    }
-
     // Writes the record of a fork. Heights stay far below 255, so the sum never stops there.
     pub(crate) fn put(&mut self, top: Fork<E>)
+        requires { top.at < length self.old.table.now }
         ensures { Putted E.sums self.old.table.now top self.new.table.now }
     {
         let left = top.left();
@@ -69,13 +54,12 @@ impl<E: Entry> Nodes<'_, E> {
         let height = self.height(left).max(self.height(right)).saturating_add(1);
         let rest = E::join(top.entry.summary(), self.summary(right));
         let summary = E::join(self.summary(left), rest);
-        let node = Node {
+        self.table[top.at] = Node {
             entry: top.entry,
             left,
             right,
             height,
             summary,
         };
-        self.set(top.at, node);
     }
 }

@@ -22,8 +22,8 @@ impl Side {
         }
     }
 
-    // Of what belongs on this side and on the other, that on the left.
-    pub(crate) fn leftmost(self, near: Option<usize>, far: Option<usize>) -> Option<usize>
+    // The first of two where this is the left, and the second where it is the right.
+    pub(crate) fn pick(self, near: Option<usize>, far: Option<usize>) -> Option<usize>
         ensures { result ≡ pick self near far }
     {
         match self {

@@ -1,12 +1,12 @@
 // A tree, told by the list of its entries.
-ghost use Rattle.std.specs.Prelude.{◌≡◌, [], length};
+ghost use Rattle.std.specs.Prelude.{◌≡◌, ◌^◌, ◌<◌, [], length};
 
 use crate::entry::Entry;
 use crate::node::Node;
 use crate::nodes::Nodes;
 use std::marker::Model;
 
-/// An AVL tree of entries in a lent table. The entries stand in its first `count` records, so no record is ever lost.
+/// An AVL tree of entries in a lent table. They stand in its first records, so no record is ever lost.
 #[derive(Drop)]
 pub struct Tree<'t, E: Entry> {
     nodes: Nodes<'t, E>,
@@ -31,7 +31,10 @@ impl<'t, E: Entry> Tree<'t, E> {
     pub fn new(table: &'t mut [Node<E, E::Summary>]) -> Tree<'t, E>
         ensures list { result.entries ≡ [] }
         ensures places { result.places ≡ length table.old }
+        ensures small { result.places < 2 ^ 64 }
     {
+        // A length fits a `usize`.
+        let _places = table.len();
         Tree {
             nodes: Nodes { table },
             root: None,

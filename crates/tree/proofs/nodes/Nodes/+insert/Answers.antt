@@ -16,14 +16,14 @@ balance-requires g t c =
     let w = way (order_by g.E.Entry.key g.E.Key.Ord.cmp) g.met.E.Key.Ord.total c.requires.1.fit c.in-Some.is c.node-n.result c.node-n.ensures (g.E.Entry.key c.args.entry) c.in-Some-side_of.side (cc) c.fork-top.ensures in
     grow_ready g.met.E.Key.Ord.total c.requires.1 c.requires.2 w.parts w.goes c.insert-near.ensures
 
-pub returns-in-Some-side_of : goal.returns-in-Some-side_of
-returns-in-Some-side_of g t c x S F =
+pub returns : goal.returns
+returns g t c x S F =
     let w = way (order_by g.E.Entry.key g.E.Key.Ord.cmp) g.met.E.Key.Ord.total S.fit c.in-Some.is c.node-n.result c.node-n.ensures (g.E.Entry.key c.args.entry) c.in-Some-side_of.side (cc) c.fork-top.ensures in
     grow_back g.met.E.Key.Ord.total S F w.parts w.goes c.insert-near.ensures c.balance.ensures
 
-pub returns-in-None : goal.returns-in-None
-returns-in-None g t c x S F =
-    absurd (grown_same g.met.E.Key.Ord.total S F c.node-n.result (opens S.fit c.in-Some.is c.node-n.result c.node-n.ensures Left refl) (cc))
+pub unreachable-requires : goal.unreachable-requires
+unreachable-requires g t c =
+    grown_same g.met.E.Key.Ord.total c.requires.1 c.requires.2 c.node-n.result (opens c.requires.1.fit c.in-Some.is c.node-n.result c.node-n.ensures Left refl) (cc)
 
 pub returns-in_default : goal.returns-in_default
 returns-in_default g t c x S F = grown_leaf g.met.E.Key.Ord.total c.in_default.is S F c.put.ensures

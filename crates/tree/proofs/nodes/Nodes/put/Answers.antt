@@ -1,4 +1,5 @@
 use Rattle.std.proofs.Common.{◌≡◌, ◌+◌, max, [], ◌∷◌, ap, ◌∙◌, arith}
+use Rattle.std.proofs.lemmas.List.{length-set}
 use Rattle.tree.specs.Shape.{row, ents, stored_height}
 use Rattle.tree.specs.Sides.{left_of, right_of}
 use Rattle.tree.proofs.Mirrors.{put_heights}
@@ -8,14 +9,15 @@ use Rattle.tree.proofs.nodes.Nodes.put.Goals as goal
 pub returns : goal.returns
 returns g c = record {
   sum = c.join-summary.result;
-  small = c.set.ensures.small;
+  small = omega arith;
+  long = length-set _ _ _;
   is = λ within hl hr.
       let xs = c.args.self.now.table.now in
       let el : c.height.result ≡ stored_height xs (left_of c.args.top) = c.height.ensures ∙ ap (stored_height xs) c.left-left.ensures in
       let er : c.height-2.result ≡ stored_height xs (right_of c.args.top) = c.height-2.ensures ∙ ap (stored_height xs) c.right-right.ensures in
       let low = put_heights xs c.args.top hl hr in
       let h : c.saturating_add-height.result ≡ max (stored_height xs (left_of c.args.top)) (stored_height xs (right_of c.args.top)) + 1 = omega arith in
-      cc (c.set.ensures.written, c.left-left.ensures, c.right-right.ensures, h);
+      cc (c.left-left.ensures, c.right-right.ensures, h);
   sums = λ l r sl sr.
       node_sums g.E.Entry.sums c.args.top.at c.args.top.entry l r c.join-summary.result
       (c.join-summary.ensures (ents (row l)) (c.args.top.entry ∷ ents (row r)) (c.summary-3.ensures l (c.left-left.ensures ∙ sl.0, sl.1))
