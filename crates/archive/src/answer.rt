@@ -25,10 +25,7 @@ use std::alloc::AllocError;
 pub type Verdict = Result<Vec<u8>, Rejection>;
 
 // Adds what is printed of bytes for one kind, and tells why they were rejected, if they were.
-fn answer_as<K: Kind>(
-    out: &mut Vec<u8>,
-    bytes: &[u8],
-) -> Result<Result<(), Rejection>, AllocError>
+fn answer_as<K: Kind>(out: &mut Vec<u8>, bytes: &[u8]) -> Result<Result<(), Rejection>, AllocError>
     ensures text { OnOk result (out.new.items ≡ out.old.items ++ read_text K.Kind.format (read_profile K.Kind.format bytes.now)) }
     ensures rejection { IfOk result (λ r. result_err r ≡ option_map Refused (result_err (read_profile K.Kind.format bytes.now))) }
 {
