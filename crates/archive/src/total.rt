@@ -1,5 +1,5 @@
 // The totals, which stand last.
-ghost use Rattle.std.specs.Prelude.{◌≡◌, ◌+◌, ◌≤◌, List, ◌++◌, vec_len, OnOk};
+ghost use Rattle.std.specs.Prelude.{◌≡◌, ◌+◌, ◌<◌, List, ◌++◌, vec_len, OnOk};
 ghost use Rattle.archive.specs.Findings.{Finding};
 ghost use Rattle.archive.specs.Reports.{totals_of, total_text};
 ghost use Rattle.archive.specs.Views.{Parted};
@@ -15,7 +15,7 @@ pub(crate) fn push_totals(
     refused: usize,
     bad: usize,
 ) -> Result<(), AllocError>
-    requires { vec_len accepted + refused + bad ≤ usize.MAX }
+    requires { vec_len accepted + refused + bad < usize.MAX }
     ensures { OnOk result ((fs : List Finding) → Parted fs accepted.items refused bad → out.new.items ≡ out.old.items ++ total_text (totals_of fs)) }
 {
     let ok = accepted.len();
