@@ -44,10 +44,10 @@ pub record Reported (all : List (List ℕ)) (ls : List (Bor (List ℕ))) (left :
 count_more : (p : Finding → Bool) (fs gs : List Finding) → count_by p (fs ++ gs) ≡ count_by p fs + count_by p gs
 count_more p fs gs = sum_by-append (λ f. cond (p f) 1 0) fs gs
 
-pub reported_more : (all : List (List ℕ)) (ls : List (Bor (List ℕ))) (l : Bor (List ℕ)) (left rest : List (List ℕ)) (text after : List ℕ) (vs ws us : List (Vec ℕ Global)) (r b s d t e : ℕ)
+pub reported_more : {all left rest : List (List ℕ)} {ls : List (Bor (List ℕ))} {text after : List ℕ} {vs ws us : List (Vec ℕ Global)} {r b s d t e : ℕ} (l : Bor (List ℕ))
     → Reported all ls left text vs r b → Parted (finding l.now ∷ []) ws s d → left ≡ l.now ∷ rest → after ≡ text ++ answer_text (finding l.now) → us ≡ vs ++ ws → t ≡ r + s → e ≡ b + d
     → Reported all (ls ++ l ∷ []) rest after us t e
-reported_more all ls l left rest text after vs ws us r b s d t e was one next a items refusals bads =
+reported_more {rest} {ls} {vs} {ws} l was one next a items refusals bads =
     let fs = findings ls in
     let gs = finding l.now ∷ [] in
     let seen : lines (ls ++ l ∷ []) ≡ lines ls ++ l.now ∷ [] = map_push (λ x. x.now) ls l in
@@ -74,15 +74,15 @@ counted_once (accepted k bs p ∷ fs) = let rest = counted_once fs in omega (ari
 parted_all : (fs : List Finding) (vs : List (Vec ℕ Global)) (r b : ℕ) → Parted fs vs r b → length vs + r + b ≡ length fs
 parted_all fs vs r b s = omega (arith, s.refusals, s.bads, counted_once fs, length-map vs vec_items, ap length s.accepts)
 
-pub reported_few : (all : List (List ℕ)) (ls : List (Bor (List ℕ))) (left : List (List ℕ)) (text : List ℕ) (vs : List (Vec ℕ Global)) (r b : ℕ) → Reported all ls left text vs r b
+pub reported_few : {all left : List (List ℕ)} {ls : List (Bor (List ℕ))} {text : List ℕ} {vs : List (Vec ℕ Global)} {r b : ℕ} → Reported all ls left text vs r b
     → length vs + r + b ≤ length all
-reported_few all ls left text vs r b was =
+reported_few {left} {ls} {vs} {r} {b} was =
     omega (arith, parted_all (findings ls) vs r b was.parted, length-map (lines ls) finding, length-append (lines ls) left, ap length was.every)
 
 -- where no line is left, all were answered
-pub reported_all : (all : List (List ℕ)) (ls : List (Bor (List ℕ))) (left : List (List ℕ)) (text : List ℕ) (vs : List (Vec ℕ Global)) (r b : ℕ) → Reported all ls left text vs r b
+pub reported_all : {all left : List (List ℕ)} {ls : List (Bor (List ℕ))} {text : List ℕ} {vs : List (Vec ℕ Global)} {r b : ℕ} → Reported all ls left text vs r b
     → left ≡ [] → (text ≡ flat_map answer_text (map finding all)) × Parted (map finding all) vs r b
-reported_all all ls left text vs r b was none =
+reported_all {all} {ls} {vs} {r} {b} was none =
     let e : findings ls ≡ map finding all = ap (map finding) (sym (append-nil (lines ls)) ∙ (ap (λ x. lines ls ++ x) (sym none) ∙ was.every)) in
     (was.answers ∙ ap (flat_map answer_text) e, subst (λ fs. Parted fs vs r b) e was.parted)
 

@@ -8,27 +8,26 @@ use Rattle.archive.proofs.report.report.Goals as goal
 
 pub loop-line-preserved-in-Continue-branch-3 : goal.loop-line-preserved-in-Continue-branch-3
 loop-line-preserved-in-Continue-branch-3 c =
-    let v = c.in-Ok.bytes in
-    let one = one_accepted _ v (sym (ap verdict_of c.in-Ok.is) ∙ c.in_ok-bytes.ensures.verdict) in
-    reported_more _ _ _ _ _ _ _ _ _ _ _ _ _ _ _ _ c.loop-line.invariant one c.in-Some.ensures.steps c.in_ok-bytes.ensures.text c.in_ok-push-in-Ok.ensures.items (omega arith) (omega arith)
+    let one = one_accepted _ c.in-Ok.bytes (sym (ap verdict_of c.in-Ok.is) ∙ c.in_ok-bytes.ensures.verdict) in
+    reported_more c.in-Some.line c.loop-line.invariant one c.in-Some.ensures.steps c.in_ok-bytes.ensures.text c.in_ok-push-in-Ok.ensures.items (omega arith) (omega arith)
 
 pub loop-line-preserved-in-Err-Refused : goal.loop-line-preserved-in-Err-Refused
 loop-line-preserved-in-Err-Refused c =
     let one = one_refused _ c.in-Err-Refused.field-0-0 (sym (ap verdict_of (c.in-Err-Refused.is ∙ ap Err c.in-Err-Refused.field-0-is)) ∙ c.in_ok-bytes.ensures.verdict) in
-    reported_more _ _ _ _ _ _ _ _ _ _ _ _ _ _ _ _ c.loop-line.invariant one c.in-Some.ensures.steps c.in_ok-bytes.ensures.text (sym (append-nil _)) refl (omega arith)
+    reported_more c.in-Some.line c.loop-line.invariant one c.in-Some.ensures.steps c.in_ok-bytes.ensures.text (sym (append-nil _)) refl (omega arith)
 
 pub loop-line-preserved : goal.loop-line-preserved
 loop-line-preserved c =
     let one = one_bad _ (sym (ap verdict_of (c.in-Err-BadLine.is ∙ ap Err c.in-Err-BadLine.field-0-is)) ∙ c.in_ok-bytes.ensures.verdict) in
-    reported_more _ _ _ _ _ _ _ _ _ _ _ _ _ _ _ _ c.loop-line.invariant one c.in-Some.ensures.steps c.in_ok-bytes.ensures.text (sym (append-nil _)) (omega arith) refl
+    reported_more c.in-Some.line c.loop-line.invariant one c.in-Some.ensures.steps c.in_ok-bytes.ensures.text (sym (append-nil _)) (omega arith) refl
 
 pub push_totals-requires : goal.push_totals-requires
 push_totals-requires c =
-    omega (arith, reported_few _ _ _ _ _ _ _ c.loop-line.invariant, c.of-line-items.ensures.few, c.loop-line.accepted.ok.0)
+    omega (arith, reported_few c.loop-line.invariant, c.of-line-items.ensures.few, c.loop-line.accepted.ok.0)
 
 pub returns-clause-text : goal.returns-clause-text
 returns-clause-text c =
-    let all = reported_all _ _ _ _ _ _ _ c.loop-line.invariant c.in-None.ensures.steps.0 in
+    let all = reported_all c.loop-line.invariant c.in-None.ensures.steps.0 in
     let fs = findings_of c.args.input.now in
     c.in_ok-push_totals.ensures fs all.1 ∙ ap (λ t. t ++ total_text (totals_of fs)) all.0
 
