@@ -1,108 +1,99 @@
--- Findings sorted one after another, and their totals.
-use Rattle.std.proofs.Common.{◌≡◌, ℕ, ◌+◌, Bool, true, false, cond, List, [], ◌∷◌, ◌++◌, map, length, Some, Ok, Err, vec_items, count_by, Bor, Vec, sym, refl, ap, ◌∙◌, ap₂, arith}
+-- Findings parted one after another, and their totals.
+use Rattle.std.proofs.Common.{◌≡◌, ℕ, ◌+◌, ◌≤◌, Bool, cond, List, [], ◌∷◌, ◌++◌, map, length, Some, None, Ok, Err, vec_items, count_by, Bor, Vec, subst, sym, refl, ap, ◌∙◌, ap₂, arith}
 use Rattle.std.specs.List.{flat_map}
 use Rattle.std.specs.declared.alloc.Global.{Global}
-use Rattle.std.proofs.lemmas.List.{append-nil, flat_map_more, length-map, map_push}
-use Rattle.std.proofs.lemmas.List.Sums.{sum_by-cons}
+use Rattle.std.proofs.lemmas.Grind.{flat_map-append}
+use Rattle.std.proofs.lemmas.List.{append-nil, append_assoc, flat_map_more, length-map, length-append, map_push, map-append}
+use Rattle.std.proofs.lemmas.List.Sums.{sum_by-append}
+use Rattle.terms.specs.declared.refusal.Refusal.{Refusal}
 use Rattle.text.specs.Distinct.{distinct_of}
-use Rattle.archive.specs.declared.rejection.Rejection.{Rejection}
-use Rattle.archive.specs.declared.rejection.Rejection.TheVariants.{BadLine, Refused}
 use Rattle.archive.specs.Findings.{Finding, bad, refused, accepted, finding, is_bad, is_refused, accepted_bytes, verdict}
 use Rattle.archive.specs.Reports.{Totals, totals_of}
 use Rattle.archive.specs.Texts.{answer_text}
-use Rattle.archive.specs.Views.{verdict_of, rejections_of, Sorted}
+use Rattle.archive.specs.Views.{Parted}
 
--- what an accepted line adds, and what another one adds
-accepts_one : (f : Finding) (bs : List ℕ) → Some (Ok bs) ≡ verdict f → (accepted_bytes f ≡ bs ∷ []) × (rejections_of f ≡ [])
-accepts_one bad bs e = (cc, cc)
-accepts_one (refused x) bs e = (cc, cc)
-accepts_one (accepted k cs p) bs e = (cc, cc)
+-- what one line adds
+pub one_accepted : (f : Finding) (v : Vec ℕ Global) → Some (Ok (vec_items v)) ≡ verdict f → Parted (f ∷ []) (v ∷ []) 0 0
+one_accepted bad v e = cc
+one_accepted (refused x) v e = cc
+one_accepted (accepted k bs p) v e = record { accepts = cc; refusals = refl; bads = refl }
 
-rejects_one : (f : Finding) (r : Rejection) → verdict_of (Err r) ≡ verdict f → (accepted_bytes f ≡ []) × (rejections_of f ≡ r ∷ [])
-rejects_one bad BadLine e = (refl, refl)
-rejects_one bad (Refused x) e = (cc, cc)
-rejects_one (refused y) BadLine e = (cc, cc)
-rejects_one (refused y) (Refused x) e = (cc, cc)
-rejects_one (accepted k cs p) BadLine e = (cc, cc)
-rejects_one (accepted k cs p) (Refused x) e = (cc, cc)
+pub one_refused : (f : Finding) (x : Refusal) → Some (Err x) ≡ verdict f → Parted (f ∷ []) [] 1 0
+one_refused bad x e = cc
+one_refused (refused y) x e = record { accepts = refl; refusals = refl; bads = refl }
+one_refused (accepted k bs p) x e = cc
 
--- the findings of lines
+pub one_bad : (f : Finding) → None ≡ verdict f → Parted (f ∷ []) [] 0 1
+one_bad bad e = record { accepts = refl; refusals = refl; bads = refl }
+one_bad (refused y) e = cc
+one_bad (accepted k bs p) e = cc
+
+-- the lines so far, and their findings
+abbrev pub lines : List (Bor (List ℕ)) → List (List ℕ)
+lines ls = map (λ l. l.now) ls
+
 abbrev pub findings : List (Bor (List ℕ)) → List Finding
-findings ls = map (λ l. finding l.now) ls
+findings ls = map finding (lines ls)
 
--- the answers to the lines are out, and their findings are sorted
-pub record Reported (ls : List (Bor (List ℕ))) (text : List ℕ) (vs : List (Vec ℕ Global)) (rs : List Rejection) : Type 0 where
+-- of all lines these and those that are left: the answers to these are out, and their findings are parted
+pub record Reported (all : List (List ℕ)) (ls : List (Bor (List ℕ))) (left : List (List ℕ)) (text : List ℕ) (vs : List (Vec ℕ Global)) (r b : ℕ) : Type 0 where
+  pub every : lines ls ++ left ≡ all
   pub answers : text ≡ flat_map answer_text (findings ls)
-  pub sorted : Sorted (findings ls) vs rs
+  pub parted : Parted (findings ls) vs r b
 
-one_more : {Y : Type 0} (g : Finding → List Y) (ls : List (Bor (List ℕ))) (l : Bor (List ℕ)) (was after ys : List Y) → was ≡ flat_map g (findings ls) → g (finding l.now) ≡ ys
-    → after ≡ was ++ ys → after ≡ flat_map g (findings (ls ++ l ∷ []))
-one_more g ls l was after ys w e a =
-    a ∙ (ap₂ ◌++◌ w (sym e) ∙ (flat_map_more g [] (findings ls) (finding l.now) ∙ ap (flat_map g) (sym (map_push (λ x. finding x.now) ls l))))
+count_more : (p : Finding → Bool) (fs gs : List Finding) → count_by p (fs ++ gs) ≡ count_by p fs + count_by p gs
+count_more p fs gs = sum_by-append (λ f. cond (p f) 1 0) fs gs
 
-pub accepted_more : (ls : List (Bor (List ℕ))) (l : Bor (List ℕ)) (text after : List ℕ) (vs ws : List (Vec ℕ Global)) (rs : List Rejection) (v : Vec ℕ Global)
-    → Reported ls text vs rs → after ≡ text ++ answer_text (finding l.now) → Some (Ok (vec_items v)) ≡ verdict (finding l.now) → ws ≡ vs ++ v ∷ []
-    → Reported (ls ++ l ∷ []) after ws rs
-accepted_more ls l text after vs ws rs v was t e p =
-    let one = accepts_one (finding l.now) (vec_items v) e in
+pub reported_more : {all left rest : List (List ℕ)} {ls : List (Bor (List ℕ))} {text after : List ℕ} {vs ws us : List (Vec ℕ Global)} {r b s d t e : ℕ} (l : Bor (List ℕ))
+    → Reported all ls left text vs r b → Parted (finding l.now ∷ []) ws s d → left ≡ l.now ∷ rest → after ≡ text ++ answer_text (finding l.now) → us ≡ vs ++ ws → t ≡ r + s → e ≡ b + d
+    → Reported all (ls ++ l ∷ []) rest after us t e
+reported_more {rest} {ls} {vs} {ws} l was one next a items refusals bads =
+    let fs = findings ls in
+    let gs = finding l.now ∷ [] in
+    let seen : lines (ls ++ l ∷ []) ≡ lines ls ++ l.now ∷ [] = map_push (λ x. x.now) ls l in
+    let more : findings (ls ++ l ∷ []) ≡ fs ++ gs = ap (map finding) seen ∙ map_push finding (lines ls) l.now in
     record {
-      answers = one_more answer_text ls l text after _ was.answers refl t;
-      sorted = record {
-        accepts = one_more accepted_bytes ls l (map vec_items vs) (map vec_items ws) (vec_items v ∷ []) was.sorted.accepts one.0 (ap (map vec_items) p ∙ map_push vec_items vs v);
-        rejects = one_more rejections_of ls l rs rs [] was.sorted.rejects one.1 (sym (append-nil rs));
-      };
-    }
-
-pub rejected_more : (ls : List (Bor (List ℕ))) (l : Bor (List ℕ)) (text after : List ℕ) (vs : List (Vec ℕ Global)) (rs qs : List Rejection) (r : Rejection)
-    → Reported ls text vs rs → after ≡ text ++ answer_text (finding l.now) → verdict_of (Err r) ≡ verdict (finding l.now) → qs ≡ rs ++ r ∷ []
-    → Reported (ls ++ l ∷ []) after vs qs
-rejected_more ls l text after vs rs qs r was t e p =
-    let one = rejects_one (finding l.now) r e in
-    record {
-      answers = one_more answer_text ls l text after _ was.answers refl t;
-      sorted = record {
-        accepts = one_more accepted_bytes ls l (map vec_items vs) (map vec_items vs) [] was.sorted.accepts one.0 (sym (append-nil (map vec_items vs)));
-        rejects = one_more rejections_of ls l rs qs (r ∷ []) was.sorted.rejects one.1 p;
+      every = ap (λ x. x ++ rest) seen ∙ (append_assoc (lines ls) (l.now ∷ []) rest ∙ (ap (λ x. lines ls ++ x) (sym next) ∙ was.every));
+      answers = a ∙ (ap (λ x. x ++ answer_text (finding l.now)) was.answers ∙ (flat_map_more answer_text [] fs (finding l.now) ∙ ap (flat_map answer_text) (sym more)));
+      parted = record {
+        accepts = ap (map vec_items) items ∙ (map-append vec_items vs ws ∙ (ap₂ ◌++◌ was.parted.accepts one.accepts ∙ (sym (flat_map-append accepted_bytes fs gs) ∙ ap (flat_map accepted_bytes) (sym more))));
+        refusals = omega (arith, was.parted.refusals, one.refusals, count_more is_refused fs gs, ap (count_by is_refused) more);
+        bads = omega (arith, was.parted.bads, one.bads, count_more is_bad fs gs, ap (count_by is_bad) more);
       };
     }
 
 -- ---- the totals
 
-abbrev pub is_bad_line : Rejection → Bool
-is_bad_line BadLine = true
-is_bad_line (Refused e) = false
-
 -- each finding was accepted, refused or bad, and is counted once
-record Counted (fs : List Finding) : Type 0 where
-  pub bads : count_by is_bad_line (flat_map rejections_of fs) ≡ count_by is_bad fs
-  pub refusals : length (flat_map rejections_of fs) ≡ count_by is_refused fs + count_by is_bad fs
-  pub lines : length (flat_map accepted_bytes fs) + length (flat_map rejections_of fs) ≡ length fs
+counted_once : (fs : List Finding) → length (flat_map accepted_bytes fs) + count_by is_refused fs + count_by is_bad fs ≡ length fs
+counted_once [] = refl
+counted_once (bad ∷ fs) = let rest = counted_once fs in omega (arith, count_more is_refused (bad ∷ []) fs, count_more is_bad (bad ∷ []) fs)
+counted_once (refused e ∷ fs) = let rest = counted_once fs in omega (arith, count_more is_refused (refused e ∷ []) fs, count_more is_bad (refused e ∷ []) fs)
+counted_once (accepted k bs p ∷ fs) = let rest = counted_once fs in omega (arith, count_more is_refused (accepted k bs p ∷ []) fs, count_more is_bad (accepted k bs p ∷ []) fs)
 
-more : {X : Type 0} (p : X → Bool) (x : X) (xs : List X) → count_by p (x ∷ xs) ≡ cond (p x) 1 0 + count_by p xs
-more p x xs = sum_by-cons (λ y. cond (p y) 1 0) x xs
+parted_all : (fs : List Finding) (vs : List (Vec ℕ Global)) (r b : ℕ) → Parted fs vs r b → length vs + r + b ≡ length fs
+parted_all fs vs r b s = omega (arith, s.refusals, s.bads, counted_once fs, length-map vs vec_items, ap length s.accepts)
 
-counted : (fs : List Finding) → Counted fs
-counted [] = record { bads = refl; refusals = refl; lines = refl }
-counted (bad ∷ fs) =
-    let rest = counted fs in
-    let line = more is_bad_line BadLine (flat_map rejections_of fs) in
-    record { bads = omega (arith, more is_bad bad fs); refusals = omega (arith, more is_bad bad fs, more is_refused bad fs); lines = omega arith }
-counted (refused e ∷ fs) =
-    let rest = counted fs in
-    record { bads = omega arith; refusals = omega (arith, more is_bad (refused e) fs, more is_refused (refused e) fs); lines = omega arith }
-counted (accepted k bs p ∷ fs) = let rest = counted fs in record { bads = omega arith; refusals = omega arith; lines = omega arith }
+pub reported_few : {all left : List (List ℕ)} {ls : List (Bor (List ℕ))} {text : List ℕ} {vs : List (Vec ℕ Global)} {r b : ℕ} → Reported all ls left text vs r b
+    → length vs + r + b ≤ length all
+reported_few {left} {ls} {vs} {r} {b} was =
+    omega (arith, parted_all (findings ls) vs r b was.parted, length-map (lines ls) finding, length-append (lines ls) left, ap length was.every)
+
+-- where no line is left, all were answered
+pub reported_all : {all left : List (List ℕ)} {ls : List (Bor (List ℕ))} {text : List ℕ} {vs : List (Vec ℕ Global)} {r b : ℕ} → Reported all ls left text vs r b
+    → left ≡ [] → (text ≡ flat_map answer_text (map finding all)) × Parted (map finding all) vs r b
+reported_all {all} {ls} {vs} {r} {b} was none =
+    let e : findings ls ≡ map finding all = ap (map finding) (sym (append-nil (lines ls)) ∙ (ap (λ x. lines ls ++ x) (sym none) ∙ was.every)) in
+    (was.answers ∙ ap (flat_map answer_text) e, subst (λ fs. Parted fs vs r b) e was.parted)
 
 abbrev pub totals : ℕ → ℕ → ℕ → ℕ → ℕ → Totals
 totals t o r b d = record { total = t; ok = o; refused = r; bad = b; distinct = d }
 
-pub totals_is : (fs : List Finding) (vs : List (Vec ℕ Global)) (rs : List Rejection) (o r b d : ℕ) → Sorted fs vs rs → o ≡ length vs → b ≡ count_by is_bad_line rs → r + b ≡ length rs
-    → d ≡ distinct_of (map vec_items vs) → ◌≡◌ {A = Totals} (record { total = o + r + b; ok = o; refused = r; bad = b; distinct = d }) (totals_of fs)
-totals_is fs vs rs o r b d s eo eb er ed =
-    let all = counted fs in
+pub totals_is : (fs : List Finding) (vs : List (Vec ℕ Global)) (o r b d : ℕ) → Parted fs vs r b → o ≡ length vs → d ≡ distinct_of (map vec_items vs) → totals (o + r + b) o r b d ≡ totals_of fs
+totals_is fs vs o r b d s eo ed =
     let oks : o ≡ length (flat_map accepted_bytes fs) = eo ∙ (sym (length-map vs vec_items) ∙ ap length s.accepts) in
-    let bads : b ≡ count_by is_bad fs = eb ∙ (ap (count_by is_bad_line) s.rejects ∙ all.bads) in
-    let lines : length rs ≡ length (flat_map rejections_of fs) = ap length s.rejects in
-    let refusals : r ≡ count_by is_refused fs = omega arith in
-    let every : o + r + b ≡ length fs = omega arith in
+    let every : o + r + b ≡ length fs = omega (arith, parted_all fs vs r b s) in
     let different : d ≡ distinct_of (flat_map accepted_bytes fs) = ed ∙ ap distinct_of s.accepts in
+    let refusals = s.refusals in
+    let bads = s.bads in
     cc

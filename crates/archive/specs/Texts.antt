@@ -27,16 +27,16 @@ row_text f r = decimal r.offset ++ field (codes " ") r.minutes ++ codes " " ++ h
 abbrev pub accepted_text : Format → Profile → List ℕ
 accepted_text f p = field (codes "ok ") p.horizon ++ field (codes " ") (length p.rows) ++ feed ++ flat_map (row_text f) p.rows
 
-abbrev pub refused_text : Refusal → List ℕ
-refused_text e = field (codes "refused ") (number_of e) ++ feed
-
-abbrev pub bad_text : List ℕ
-bad_text = codes "bad line" ++ feed
-
 -- what is printed of a rejection, before the line feed
 abbrev pub rejection_text : Rejection → List ℕ
 rejection_text BadLine = codes "bad line"
 rejection_text (Refused e) = field (codes "refused ") (number_of e)
+
+abbrev pub bad_text : List ℕ
+bad_text = rejection_text BadLine ++ feed
+
+abbrev pub refused_text : Refusal → List ℕ
+refused_text e = rejection_text (Refused e) ++ feed
 
 -- what is printed of bytes that were read for one kind
 abbrev pub read_text : Format → Result Profile Refusal → List ℕ

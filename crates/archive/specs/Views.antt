@@ -1,5 +1,5 @@
 -- The code's filings and verdicts as the definitions have them.
-use Rattle.std.specs.Prelude.{◌≡◌, ℕ, List, [], ◌∷◌, map, Some, None, Ok, Err, vec_items, Option, Result, Vec}
+use Rattle.std.specs.Prelude.{◌≡◌, ℕ, List, map, Some, None, Ok, Err, count_by, vec_items, Option, Result, Vec}
 use Rattle.std.specs.List.{flat_map}
 use Rattle.std.specs.declared.alloc.Global.{Global}
 use Rattle.terms.specs.declared.refusal.Refusal.{Refusal as Reason}
@@ -7,7 +7,7 @@ use Rattle.archive.specs.declared.kind_name.KindName.{KindName}
 use Rattle.archive.specs.declared.line.Filing.{Filing}
 use Rattle.archive.specs.declared.rejection.Rejection.{Rejection}
 use Rattle.archive.specs.declared.rejection.Rejection.TheVariants.{BadLine, Refused}
-use Rattle.archive.specs.Findings.{Finding, bad, refused, accepted, accepted_bytes}
+use Rattle.archive.specs.Findings.{Finding, is_bad, is_refused, accepted_bytes}
 
 abbrev pub filing_of : Filing → KindName × List ℕ
 filing_of f = (f.kind, vec_items f.bytes)
@@ -17,13 +17,8 @@ verdict_of (Ok v) = Some (Ok (vec_items v))
 verdict_of (Err BadLine) = None
 verdict_of (Err (Refused e)) = Some (Err e)
 
--- why a finding filed no profile: one reason or none
-abbrev pub rejections_of : Finding → List Rejection
-rejections_of bad = BadLine ∷ []
-rejections_of (refused e) = Refused e ∷ []
-rejections_of (accepted k bs p) = []
-
--- the findings sorted: these byte strings were accepted, and these rejections made
-pub record Sorted (fs : List Finding) (vs : List (Vec ℕ Global)) (rs : List Rejection) : Type 0 where
+-- the findings parted: these byte strings were accepted, and so many lines were refused and so many bad
+pub record Parted (fs : List Finding) (vs : List (Vec ℕ Global)) (r b : ℕ) : Type 0 where
   pub accepts : map vec_items vs ≡ flat_map accepted_bytes fs
-  pub rejects : rs ≡ flat_map rejections_of fs
+  pub refusals : r ≡ count_by is_refused fs
+  pub bads : b ≡ count_by is_bad fs

@@ -1,11 +1,13 @@
 // The answer to one line.
 ghost use Rattle.std.specs.Prelude.{◌≡◌, ◌++◌, IfOk, Some, OnOk};
+ghost use Rattle.std.specs.Option.{option_map};
 ghost use Rattle.std.specs.Result.{result_err};
 ghost use Rattle.profile.specs.Wire.{read_profile};
 ghost use Rattle.archive.specs.Findings.{found, finding, verdict};
 ghost use Rattle.archive.specs.Grammar.{format_of};
 ghost use Rattle.archive.specs.Texts.{read_text, answer_text};
 ghost use Rattle.archive.specs.Views.{filing_of, verdict_of};
+ghost use Rattle.archive.specs.declared.rejection.Rejection.TheVariants.{Refused};
 
 use crate::kind_name::KindName;
 use crate::line::{Filing, read_line};
@@ -18,15 +20,14 @@ use loads::pair::Pair;
 use profile::read::read;
 use profile::row::ReadError;
 use std::alloc::AllocError;
-use terms::refusal::Refusal;
 
 /// What a line was found to be: of an accepted one, the bytes of its profile.
 pub type Verdict = Result<Vec<u8>, Rejection>;
 
-// Adds what is printed of bytes for one kind, and tells why they were refused, if they were.
-fn answer_as<K: Kind>(out: &mut Vec<u8>, bytes: &[u8]) -> Result<Result<(), Refusal>, AllocError>
+// Adds what is printed of bytes for one kind, and tells why they were rejected, if they were.
+fn answer_as<K: Kind>(out: &mut Vec<u8>, bytes: &[u8]) -> Result<Result<(), Rejection>, AllocError>
     ensures text { OnOk result (out.new.items ≡ out.old.items ++ read_text K.Kind.format (read_profile K.Kind.format bytes.now)) }
-    ensures refusal { IfOk result (λ r. result_err r ≡ result_err (read_profile K.Kind.format bytes.now)) }
+    ensures rejection { IfOk result (λ r. result_err r ≡ option_map Refused (result_err (read_profile K.Kind.format bytes.now))) }
 {
     match read::<K>(*out.allocator(), bytes) {
         Ok(profile) => {
@@ -34,8 +35,9 @@ fn answer_as<K: Kind>(out: &mut Vec<u8>, bytes: &[u8]) -> Result<Result<(), Refu
             Ok(Ok(()))
         }
         Err(ReadError::Refused(refusal)) => {
-            push_line(out, Rejection::Refused(refusal))?;
-            Ok(Err(refusal))
+            let rejection = Rejection::Refused(refusal);
+            push_line(out, rejection)?;
+            Ok(Err(rejection))
         }
         // Want of memory is no answer to the line, so it leaves by the outer error.
         Err(ReadError::OutOfMemory) => Err(AllocError),
@@ -47,9 +49,9 @@ fn answer_named(
     out: &mut Vec<u8>,
     kind: KindName,
     bytes: &[u8],
-) -> Result<Result<(), Refusal>, AllocError>
+) -> Result<Result<(), Rejection>, AllocError>
     ensures text { OnOk result (out.new.items ≡ out.old.items ++ read_text (format_of kind) (read_profile (format_of kind) bytes.now)) }
-    ensures refusal { IfOk result (λ r. result_err r ≡ result_err (read_profile (format_of kind) bytes.now)) }
+    ensures rejection { IfOk result (λ r. result_err r ≡ option_map Refused (result_err (read_profile (format_of kind) bytes.now))) }
 {
     match kind {
         KindName::Airtime => answer_as::<Airtime>(out, bytes),
@@ -64,10 +66,7 @@ fn answer_filing(out: &mut Vec<u8>, filing: Filing) -> Result<Verdict, AllocErro
     ensures verdict { IfOk result (λ v. verdict_of v ≡ verdict (found (Some (filing_of filing)))) }
 {
     let Filing { kind, bytes } = filing;
-    match answer_named(out, kind, bytes.as_slice())? {
-        Ok(()) => Ok(Ok(bytes)),
-        Err(refusal) => Ok(Err(Rejection::Refused(refusal))),
-    }
+    Ok(answer_named(out, kind, bytes.as_slice())?.map(|()| bytes))
 }
 
 /// Adds the answer to a line, and tells what it was found to be.

@@ -1,9 +1,8 @@
 // The text of what was read.
-ghost use Rattle.std.specs.Prelude.{◌≡◌, ◌++◌, map, codes, decimal, IfSome, OnOk};
+ghost use Rattle.std.specs.Prelude.{◌≡◌, ◌++◌, map, IfSome, OnOk};
 ghost use Rattle.std.specs.List.{flat_map};
 ghost use Rattle.profile.specs.Views.{row_of, profile_of};
-ghost use Rattle.text.specs.Hex.{hex_text};
-ghost use Rattle.archive.specs.Texts.{feed, field, row_text, accepted_text};
+ghost use Rattle.archive.specs.Texts.{feed, row_text, accepted_text};
 
 use loads::kind::Kind;
 use profile::row::{Profile, Row};
@@ -20,13 +19,15 @@ pub(crate) fn push_line<D: Display + Drop>(out: &mut Vec<u8>, value: D) -> Resul
     out.extend_from_slice(line.as_bytes())
 }
 
-// Adds a row, its load given as the image. It is pushed in pieces, since a text made for each row would take half as long again.
-fn push_row(out: &mut Vec<u8>, offset: u32, length: u32, image: &[u8]) -> Result<(), AllocError>
-    ensures { OnOk result (out.new.items ≡ out.old.items ++ (decimal offset ++ field (codes " ") length ++ codes " " ++ hex_text image.now ++ feed)) }
+// Adds a row, its load given as the image. It is pushed in pieces, since a text made for each row would take half as
+// long again.
+fn push_row<K: Kind>(out: &mut Vec<u8>, row: &Row<K::Load>, image: &[u8]) -> Result<(), AllocError>
+    ensures { image.now ≡ K.Kind.format.image (K.Kind.counts row.now.load)
+        → OnOk result (out.new.items ≡ out.old.items ++ row_text K.Kind.format (row_of K.Kind.counts row.now)) }
 {
-    push_decimal(out, u64::from(offset))?;
+    push_decimal(out, u64::from(row.offset))?;
     out.extend_from_slice(b" ")?;
-    push_decimal(out, u64::from(length))?;
+    push_decimal(out, u64::from(row.length))?;
     out.extend_from_slice(b" ")?;
     push_hex(out, image)?;
     out.extend_from_slice(b"\n")
@@ -40,7 +41,7 @@ fn push_rows<K: Kind>(out: &mut Vec<u8>, rows: &[Row<K::Load>]) -> Result<(), Al
     for row in rows {
         // There is room for every image: for one that is longer than any buffer there was no memory.
         K::put(row.load, image).unwrap();
-        push_row(out, row.offset, row.length, image)?;
+        push_row::<K>(out, row, image)?;
     }
     Ok(())
 }

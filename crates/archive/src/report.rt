@@ -4,6 +4,7 @@ ghost use Rattle.archive.specs.Laws.{OneKind, OneWritingEach};
 ghost use Rattle.archive.specs.Reports.{report_text};
 
 use crate::answer::answer;
+use crate::rejection::Rejection;
 use crate::total::push_totals;
 use std::alloc::{AllocError, Global};
 use text::lines::Lines;
@@ -17,13 +18,15 @@ pub fn report(heap: Global, input: &[u8]) -> Result<Vec<u8>, AllocError>
 {
     let mut text = Vec::new(heap);
     let mut accepted = Vec::new(heap);
-    let mut rejections = Vec::new(heap);
+    let mut refused = 0;
+    let mut bad = 0;
     for line in Lines::of(input) {
         match answer(&mut text, line)? {
             Ok(bytes) => accepted.push(bytes)?,
-            Err(rejection) => rejections.push(rejection)?,
+            Err(Rejection::Refused(_)) => refused += 1,
+            Err(Rejection::BadLine) => bad += 1,
         }
     }
-    push_totals(&mut text, accepted, rejections.as_slice())?;
+    push_totals(&mut text, accepted, refused, bad)?;
     Ok(text)
 }

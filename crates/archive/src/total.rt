@@ -1,11 +1,10 @@
 // The totals, which stand last.
-ghost use Rattle.std.specs.Prelude.{◌≡◌, List, ◌++◌, OnOk};
+ghost use Rattle.std.specs.Prelude.{◌≡◌, ◌+◌, ◌<◌, List, ◌++◌, vec_len, OnOk};
 ghost use Rattle.archive.specs.Findings.{Finding};
 ghost use Rattle.archive.specs.Reports.{totals_of, total_text};
-ghost use Rattle.archive.specs.Views.{Sorted};
+ghost use Rattle.archive.specs.Views.{Parted};
 
 use crate::print::push_line;
-use crate::rejection::Rejection;
 use std::alloc::AllocError;
 use text::distinct::distinct;
 
@@ -13,16 +12,13 @@ use text::distinct::distinct;
 pub(crate) fn push_totals(
     out: &mut Vec<u8>,
     accepted: Vec<Vec<u8>>,
-    rejections: &[Rejection],
+    refused: usize,
+    bad: usize,
 ) -> Result<(), AllocError>
-    ensures { OnOk result ((fs : List Finding) → Sorted fs accepted.items rejections.now → out.new.items ≡ out.old.items ++ total_text (totals_of fs)) }
+    requires { vec_len accepted + refused + bad < usize.MAX }
+    ensures { OnOk result ((fs : List Finding) → Parted fs accepted.items refused bad → out.new.items ≡ out.old.items ++ total_text (totals_of fs)) }
 {
     let ok = accepted.len();
-    let bad = rejections
-        .iter()
-        .filter(|r| matches!(**r, Rejection::BadLine))
-        .count();
-    let refused = rejections.len() - bad;
     let total = ok + refused + bad;
     let distinct = distinct(accepted);
     push_line(

@@ -1,22 +1,18 @@
-use Rattle.std.proofs.Common.{◌≡◌, ◌++◌, ◌+◌, ◌-◌, length, count_by, vec_items, OnOk, ap, ◌∙◌, rules, arith}
+use Rattle.std.proofs.Common.{◌≡◌, ◌++◌, ◌+◌, vec_items, OnOk, ap, ◌∙◌, rules}
 use Rattle.std.proofs.lemmas.Result.{on_ok_weaker, IfOk-equal}
-use Rattle.std.proofs.lemmas.List.Sums.{count_by-le-length}
 use Rattle.std.proofs.lemmas.List.{append_assoc}
 use Rattle.archive.specs.Reports.{total_text}
-use Rattle.archive.proofs.Totals.{is_bad_line, totals, totals_is}
+use Rattle.archive.proofs.Totals.{totals, totals_is}
 use Rattle.archive.proofs.total.push_totals.Goals as goal
 
 pub returns : goal.returns
 returns c =
     let out = vec_items c.args.out.now in
-    let rs = c.args.rejections.now in
     let ok = c.len-ok.result in
-    let bad = c.count-bad.result in
-    let refused = length rs - bad in
+    let refused = c.args.refused in
+    let bad = c.args.bad in
     let d = c.distinct-distinct in
-    let b : bad ≡ count_by is_bad_line rs = search rules in
-    let all : refused + bad ≡ length rs = omega (arith, count_by-le-length is_bad_line rs) in
     let told : OnOk c.push_line.result (vec_items c.push_line.new.out ≡ out ++ total_text (totals (ok + refused + bad) ok refused bad d.result)) = search (rules, IfOk-equal, append_assoc) in
     on_ok_weaker c.push_line.result
-    (λ e fs s. e ∙ ap (λ t. out ++ total_text t) (totals_is fs (vec_items c.args.accepted) rs ok refused bad d.result s (c.len-ok.ensures ∙ c.args.accepted.ok.0) b all d.ensures))
+    (λ e fs s. e ∙ ap (λ t. out ++ total_text t) (totals_is fs (vec_items c.args.accepted) ok refused bad d.result s (c.len-ok.ensures ∙ c.args.accepted.ok.0) d.ensures))
     told
