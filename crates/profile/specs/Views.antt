@@ -1,10 +1,8 @@
--- The code's rows, headers and profiles as the definitions have them.
+-- The code's rows, headers and profiles as the definitions have them, and how far a profile was read.
 use Rattle.std.specs.Prelude.{◌≡◌, ℕ, ◌<◌, List, map, length, Ok, Err, vec_items, Option, Result, Vec}
 use Rattle.std.specs.declared.alloc.Global.{Global}
-use Rattle.std.specs.Option.{option_map}
 use Rattle.loads.specs.Formats.{Format}
 use Rattle.terms.specs.declared.refusal.Refusal.{Refusal as Reason}
-use Rattle.profile.specs.declared.limits.Limits.{Limits}
 use Rattle.profile.specs.declared.row.Row.{Row as HeldRow}
 use Rattle.profile.specs.declared.row.Header.{Header as HeldHeader}
 use Rattle.profile.specs.declared.row.Profile.{Profile as HeldProfile}
@@ -35,10 +33,16 @@ Collects counts rs (Ok v) = map (row_of counts) (vec_items v) ≡ rs
 Collects counts rs (Err (Refused e)) = ⊥
 Collects counts rs (Err OutOfMemory) = 0 < length rs
 
--- the row before the next one
-abbrev pub before_of : {K L : Type 0} → (L → List ℕ) → Limits K L → Option Row
-before_of counts limits = option_map (row_of counts) limits.before
+-- what the next row has to keep to: the horizon, and the row before it, if there is one
+pub record RowLimits : Type 0 where
+  pub horizon : ℕ
+  pub before : Option Row
 
--- so many rows read on from bytes, the next one within the limits
-abbrev pub read_on : {K L : Type 0} → Format → (L → List ℕ) → Limits K L → List ℕ → ℕ → Result (List Row) Reason
-read_on f counts limits rest n = read_rows f limits.horizon (before_of counts limits) n rest
+-- how far a profile has been read: what the next row has to keep to, and the bytes from it on
+pub record Reading : Type 0 where
+  pub limits : RowLimits
+  pub rest : List ℕ
+
+-- so many rows read on from there
+abbrev pub read_on : Format → Reading → ℕ → Result (List Row) Reason
+read_on f a n = read_rows f a.limits.horizon a.limits.before n a.rest

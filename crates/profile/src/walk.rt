@@ -10,6 +10,7 @@ use crate::limits::Limits;
 use crate::row::{Header, Row};
 use loads::kind::{Kind, LoadFault};
 use loads::word::split_u32;
+use std::marker::Model;
 use terms::refusal::Refusal;
 
 // The mark, the horizon with the number of rows, and the bytes after them.
@@ -65,11 +66,19 @@ pub(crate) struct Walk<'b, K: Kind> {
     rest: &'b [u8],
 }
 
+impl<'b, K: Kind> Model for Walk<'b, K> {
+    ghost use Rattle.profile.specs.Views.{Reading};
+
+    ghost Value = { Reading };
+
+    ghost view = { λ a. record { limits = a.limits; rest = a.rest.now } };
+}
+
 impl<'b, K: Kind> Walk<'b, K> {
     /// The header, and the walk that begins with the first row after it.
     pub(crate) fn start(bytes: &'b [u8]) -> Result<(Header, Walk<'b, K>), Refusal>
         ensures header { answered (λ p. header_of p.0) (λ e. e) result ≡ read_header K.Kind.format bytes.now }
-        ensures rows { IfOk result (λ p. (n : ℕ) → read_on K.Kind.format K.Kind.counts p.1.limits p.1.rest.now n ≡ read_rows K.Kind.format p.0.horizon None n (drop 9 bytes.now)) }
+        ensures rows { IfOk result (λ p. (n : ℕ) → read_on K.Kind.format p.1 n ≡ read_rows K.Kind.format p.0.horizon None n (drop 9 bytes.now)) }
     {
         let (mark, header, rest) = split_header(bytes).ok_or(Refusal::ProfileLength)?;
         if mark != K::MARK {
@@ -81,7 +90,7 @@ impl<'b, K: Kind> Walk<'b, K> {
 
     /// The row at the front of the rest, if it keeps to the limits; the walk goes on behind it.
     pub(crate) fn next_row(&mut self) -> Result<Row<K::Load>, Refusal>
-        ensures { (n : ℕ) → read_on K.Kind.format K.Kind.counts self.old.limits self.old.rest.now (n + 1) ≡ then_rows (answered (row_of K.Kind.counts) (λ e. e) result) (λ _. read_on K.Kind.format K.Kind.counts self.new.limits self.new.rest.now n) }
+        ensures { (n : ℕ) → read_on K.Kind.format self.old (n + 1) ≡ then_rows (answered (row_of K.Kind.counts) (λ e. e) result) (λ _. read_on K.Kind.format self.new n) }
     {
         let (row, rest) = split_row::<K>(self.rest)?;
         self.limits.admit(row)?;
@@ -91,7 +100,7 @@ impl<'b, K: Kind> Walk<'b, K> {
 
     /// Refuses bytes after the last row.
     pub(crate) fn finish(&self) -> Result<(), Refusal>
-        ensures { answered (λ _. []) (λ e. e) result ≡ read_on K.Kind.format K.Kind.counts self.now.limits self.now.rest.now 0 }
+        ensures { answered (λ _. []) (λ e. e) result ≡ read_on K.Kind.format self.now 0 }
     {
         if self.rest.is_empty() {
             Ok(())

@@ -9,13 +9,13 @@ use Rattle.profile.proofs.read.check.Goals as goal
 pub loop-init : goal.loop-init
 loop-init g c =
     let h = c.in_ok-header.header in
-    let on = read_on g.K.Kind.format g.K.Kind.counts c.in_ok-header.walk.limits c.in_ok-header.walk.rest.now in
+    let on = read_on g.K.Kind.format c.in_ok-header.walk in
     ap result_err (left_all (λ n. read_rows g.K.Kind.format h.horizon None n (drop 9 c.args.bytes.now)) on h.count c.in_ok-header.ensures.rows)
 
 pub returns-in_err-next_row : goal.returns-in_err-next_row
 returns-in_err-next_row g c =
     let h = c.in_ok-header.header in
-    let on = read_on g.K.Kind.format g.K.Kind.counts c.loop.walk.limits c.loop.walk.rest.now in
+    let on = read_on g.K.Kind.format c.loop.walk in
     let p = err_from_is_err_and c.from_residual-in_err-next_row.result c.from_residual-in_err-next_row.ensures.1 in
     rw (p.1, p.2)
     (read_refused g.K.Kind.format c.args.bytes.now (header_of h) c.in_ok-header.ensures.header (on (h.count - c.loop.counter)) c.loop.invariant c.in_err-next_row.field-0.0
@@ -24,15 +24,15 @@ returns-in_err-next_row g c =
 pub loop-preserved : goal.loop-preserved
 loop-preserved g c =
     let h = c.in_ok-header.header in
-    let on = read_on g.K.Kind.format g.K.Kind.counts c.loop.walk.limits c.loop.walk.rest.now in
-    let next = read_on g.K.Kind.format g.K.Kind.counts c.next_row.new.self.limits c.next_row.new.self.rest.now in
+    let on = read_on g.K.Kind.format c.loop.walk in
+    let next = read_on g.K.Kind.format c.next_row.new.self in
     err_more on next h.count c.loop.counter (omega arith) (read_rows g.K.Kind.format h.horizon None h.count (drop 9 c.args.bytes.now))
     (row_of g.K.Kind.counts c.in_ok-next_row.field-0) c.loop.invariant c.in_ok-next_row.ensures
 
 pub returns-in_err-finish : goal.returns-in_err-finish
 returns-in_err-finish g c =
     let h = c.in_ok-header.header in
-    let on = read_on g.K.Kind.format g.K.Kind.counts c.loop.walk.limits c.loop.walk.rest.now in
+    let on = read_on g.K.Kind.format c.loop.walk in
     let p = err_from_is_err_and c.from_residual-in_err-finish.result c.from_residual-in_err-finish.ensures.1 in
     rw (p.1, p.2)
     (read_refused g.K.Kind.format c.args.bytes.now (header_of h) c.in_ok-header.ensures.header (on (h.count - c.loop.counter)) c.loop.invariant c.in_err-finish.field-0.0
@@ -41,6 +41,6 @@ returns-in_err-finish g c =
 pub returns : goal.returns
 returns g c =
     let h = c.in_ok-header.header in
-    let on = read_on g.K.Kind.format g.K.Kind.counts c.loop.walk.limits c.loop.walk.rest.now in
+    let on = read_on g.K.Kind.format c.loop.walk in
     read_passed g.K.Kind.format c.args.bytes.now (header_of h) c.in_ok-header.ensures.header (on (h.count - c.loop.counter)) c.loop.invariant
     (left_none on h.count c.loop.counter (omega arith) (Ok []) c.in_ok-finish.ensures)

@@ -8,4 +8,4 @@ use Rattle.profile.proofs.read.check.Given as goal
 abbrev pub invariant-loop : goal.invariant-loop
 invariant-loop g l =
     result_err (read_rows g.K.Kind.format l.header.horizon None l.header.count (drop 9 l.bytes))
-    ≡ result_err (read_on g.K.Kind.format g.K.Kind.counts l.walk.limits l.walk.rest.now (l.header.count - l.counter))
+    ≡ result_err (read_on g.K.Kind.format l.walk (l.header.count - l.counter))

@@ -1,12 +1,12 @@
 use Rattle.std.proofs.Common.{◌-◌, map, drop, None, vec_items, refl, ap, ◌∙◌, arith}
 use Rattle.std.proofs.lemmas.Result.{err_from_is_err_and}
-use Rattle.profile.specs.Views.{row_of, header_of, before_of, read_on}
+use Rattle.profile.specs.Views.{row_of, header_of, read_on}
 use Rattle.profile.proofs.Steps.{rows_many, rows_ended, not_stopped, after_start, after_more, left_stop, left_none, left_all, passed}
 use Rattle.profile.proofs.read.read_rows.Goals as goal
 
 pub loop-init : goal.loop-init
 loop-init g c =
-    let start = read_on g.K.Kind.format g.K.Kind.counts c.in_ok-header.walk.limits c.in_ok-header.walk.rest.now in
+    let start = read_on g.K.Kind.format c.in_ok-header.walk in
     let n = c.in_ok-header.header.count in
     after_start (start n) (start (n - 0)) (map (row_of g.K.Kind.counts) (vec_items c.new-rows.result)) (ap (map (row_of g.K.Kind.counts)) c.new-rows.ensures.items)
     (left_all start start n (λ k. refl))
@@ -14,8 +14,8 @@ loop-init g c =
 pub returns-in_err-next_row : goal.returns-in_err-next_row
 returns-in_err-next_row g c p e =
     let h = c.in_ok-header.header in
-    let start = read_on g.K.Kind.format g.K.Kind.counts c.in_ok-header.walk.limits c.in_ok-header.walk.rest.now in
-    let on = read_on g.K.Kind.format g.K.Kind.counts c.loop.walk.limits c.loop.walk.rest.now in
+    let start = read_on g.K.Kind.format c.in_ok-header.walk in
+    let on = read_on g.K.Kind.format c.loop.walk in
     absurd (not_stopped (start h.count) (on (h.count - c.loop.counter)) (map (row_of g.K.Kind.counts) (vec_items c.loop.rows)) p.rows c.in_err-next_row.field-0.0 c.loop.invariant
     (left_stop on on h.count c.loop.counter (omega arith) c.in_err-next_row.field-0.0 c.in_err-next_row.ensures)
     (c.in_ok-header.ensures.rows h.count ∙ passed g.K.Kind.format c.args.bytes.now (header_of h) c.in_ok-header.ensures.header p e))
@@ -29,9 +29,9 @@ returns-in_err-push g c p e =
 
 pub loop-preserved : goal.loop-preserved
 loop-preserved g c =
-    let start = read_on g.K.Kind.format g.K.Kind.counts c.in_ok-header.walk.limits c.in_ok-header.walk.rest.now in
-    let on = read_on g.K.Kind.format g.K.Kind.counts c.loop.walk.limits c.loop.walk.rest.now in
-    let next = read_on g.K.Kind.format g.K.Kind.counts c.next_row.new.self.limits c.next_row.new.self.rest.now in
+    let start = read_on g.K.Kind.format c.in_ok-header.walk in
+    let on = read_on g.K.Kind.format c.loop.walk in
+    let next = read_on g.K.Kind.format c.next_row.new.self in
     let n = c.in_ok-header.header.count in
     after_more on next n c.loop.counter (omega arith) (start n) (row_of g.K.Kind.counts) (vec_items c.loop.rows) (vec_items c.push.new.self) c.in_ok-next_row.field-0
     c.in_ok-push.ensures.items c.loop.invariant c.in_ok-next_row.ensures
@@ -39,9 +39,8 @@ loop-preserved g c =
 pub returns : goal.returns
 returns g c p e =
     let h = c.in_ok-header.header in
-    let limits = c.loop.walk.limits in
-    let start = read_on g.K.Kind.format g.K.Kind.counts c.in_ok-header.walk.limits c.in_ok-header.walk.rest.now in
-    let on = read_on g.K.Kind.format g.K.Kind.counts limits c.loop.walk.rest.now in
-    rows_ended g.K.Kind.format limits.horizon (before_of g.K.Kind.counts limits) c.loop.walk.rest.now (start h.count) (on (h.count - c.loop.counter))
+    let start = read_on g.K.Kind.format c.in_ok-header.walk in
+    let on = read_on g.K.Kind.format c.loop.walk in
+    rows_ended g.K.Kind.format c.loop.walk.limits.horizon c.loop.walk.limits.before c.loop.walk.rest (start h.count) (on (h.count - c.loop.counter))
     (map (row_of g.K.Kind.counts) (vec_items c.loop.rows)) p.rows c.loop.invariant (left_none on h.count c.loop.counter (omega arith) (on 0) refl)
     (c.in_ok-header.ensures.rows h.count ∙ passed g.K.Kind.format c.args.bytes.now (header_of h) c.in_ok-header.ensures.header p e)

@@ -6,5 +6,5 @@ use Rattle.profile.proofs.read.read_rows.Given as goal
 -- the rows so far, and then those that are left
 abbrev pub invariant-loop : goal.invariant-loop
 invariant-loop g l =
-    read_on g.K.Kind.format g.K.Kind.counts l.initial.walk.limits l.initial.walk.rest.now l.end
-    ≡ after (map (row_of g.K.Kind.counts) (vec_items l.rows)) (read_on g.K.Kind.format g.K.Kind.counts l.walk.limits l.walk.rest.now (l.end - l.counter))
+    read_on g.K.Kind.format l.initial.walk l.end
+    ≡ after (map (row_of g.K.Kind.counts) (vec_items l.rows)) (read_on g.K.Kind.format l.walk (l.end - l.counter))
