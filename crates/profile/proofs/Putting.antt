@@ -1,5 +1,5 @@
 -- Bytes put into a buffer part by part, and at a place.
-use Rattle.std.proofs.Common.{◌≡◌, ℕ, ◌+◌, ◌-◌, ◌<◌, ◌≤◌, cond, leb, List, [], ◌++◌, length, take, drop, sym, refl, ap, ◌∙◌, ap₂, inl, inr, zero-add, arith, length-append, length-drop, length-take}
+use Rattle.std.proofs.Common.{◌≡◌, ℕ, suc, ◌+◌, ◌-◌, ◌<◌, ◌≤◌, cond, leb, List, [], ◌∷◌, ◌++◌, length, take, drop, sym, refl, ap, ◌∙◌, ap₂, inl, inr, zero-add, arith, length-append, length-drop, length-take}
 use borrow.Rule.Slice.PartMut.{put_mid}
 use Rattle.std.proofs.lemmas.List.{take_rest, drop-drop, drop_all, append-nil, append_assoc, take-append-drop, take_at, drop_at}
 use Rattle.std.proofs.lemmas.Bool.{cases_lt, le-leb, lt-leb, cond-true, cond-false}
@@ -65,3 +65,14 @@ pub front_more : (xs ys buffer middle after : List ℕ) (n : ℕ) → middle ≡
     → after ≡ put_at n ys middle → after ≡ put_front (xs ++ ys) buffer
 front_more xs ys buffer middle after n e k h a =
     put_more 0 xs ys buffer middle after n (e ∙ sym (put_at_front xs buffer)) (omega arith) (omega arith) a ∙ put_at_front (xs ++ ys) buffer
+
+-- ---- a first byte, and then others
+
+module _ (first : ℕ) (xs rest new buffer : List ℕ) (is : buffer ≡ first ∷ rest) (put : new ≡ put_front xs rest) where
+  pub first_kept : (x : ℕ) → length rest < length xs → first ∷ new ≡ put_front (x ∷ xs) buffer
+  first_kept x h = ap (λ bs. first ∷ bs) (put ∙ sym (put_short xs rest h)) ∙ (sym is ∙ put_short (x ∷ xs) buffer (omega (arith, ap length is)))
+
+  pub first_put : (x : ℕ) → length xs ≤ length rest → x ∷ new ≡ put_front (x ∷ xs) buffer
+  first_put x h =
+      ap (λ bs. x ∷ bs) (put ∙ put_long xs rest (length xs) refl h)
+      ∙ sym (ap (put_front (x ∷ xs)) is ∙ put_long (x ∷ xs) (first ∷ rest) (suc (length xs)) refl (omega arith))

@@ -92,17 +92,17 @@ module _ (f : Format) (lawful : Lawful f) (r : Row) (counted : Counted f r.load)
       sym (put_at_short at (row_bytes f r) buffer (omega (arith, length_row f lawful r counted)))
 
   -- offset and length, and then the image after them
-  pub row_put : (end : ℕ) (span front rest : List ℕ) → Some end ≡ place_after at (1 * row_size f) buffer → span ≡ to_bytes 4 r.offset ++ to_bytes 4 r.minutes
-      → front ≡ put_front span (take (length buffer - at) (drop at buffer))
+  pub row_put : (end : ℕ) (front rest : List ℕ) → Some end ≡ place_after at (1 * row_size f) buffer
+      → front ≡ put_front (to_bytes 4 r.offset ++ to_bytes 4 r.minutes) (take (length buffer - at) (drop at buffer))
       → rest ≡ put_front (f.image r.load) (take (length (put_mid at (length buffer - at) buffer front) - (at + 8)) (drop (at + 8) (put_mid at (length buffer - at) buffer front)))
       → put_mid (at + 8) (length (put_mid at (length buffer - at) buffer front) - (at + 8)) (put_mid at (length buffer - at) buffer front) rest ≡ put_at at (row_bytes f r) buffer
-  row_put end span front rest e s a b =
+  row_put end front rest e a b =
       let words = to_bytes 4 r.offset ++ to_bytes 4 r.minutes in
       let one = put_mid at (length buffer - at) buffer front in
       let l : length words ≡ 8 = length-append (to_bytes 4 r.offset) (to_bytes 4 r.minutes) ∙ ap₂ ◌+◌ (length_to_bytes 4 r.offset) (length_to_bytes 4 r.minutes) in
       let i = lawful.sized r.load counted in
       let fits = (place_some end at (1 * row_size f) buffer e).1 in
-      let first : one ≡ put_at at words buffer = put_at_is at span buffer front (omega arith) a ∙ ap (λ bs. put_at at bs buffer) s in
+      let first : one ≡ put_at at words buffer = put_at_is at words buffer front (omega arith) a in
       let same : length one ≡ length buffer = ap length first ∙ length_put_at at words buffer (omega arith) in
       put_more at words (f.image r.load) buffer one _ (at + 8) first (omega arith) (omega arith) (put_at_is (at + 8) (f.image r.load) one rest (omega arith) b)
 
