@@ -120,20 +120,17 @@ module _ {X : Type 0} (f : Format) (lawful : Lawful f) (view : X → Row) (count
   abbrev pub front : ℕ → List ℕ
   front i = flat_map (row_bytes f) (map view (take i xs))
 
-  pub length_front : (i : ℕ) → i ≤ length xs → length (front i) ≡ i * row_size f
+  length_front : (i : ℕ) → i ≤ length xs → length (front i) ≡ i * row_size f
   length_front i l =
       length_all f lawful view counted (take i xs) ∙ ap (λ (n : ℕ). n * row_size f) (length-take i xs ∙ omega arith)
 
-  pub front_fits : (i : ℕ) → i ≤ length xs → start + i * row_size f ≤ length buffer
+  front_fits : (i : ℕ) → i ≤ length xs → start + i * row_size f ≤ length buffer
   front_fits i l = omega (arith, mul-le-mul_right (row_size f) l)
 
   front_more : (i : ℕ) (x : X) → i < length xs → x ≡ get_or xs i x → front i ++ row_bytes f (view x) ≡ front (i + 1)
   front_more i x l e =
       flat_map_more (row_bytes f) [] (map view (take i xs)) (view x)
       ∙ ap (flat_map (row_bytes f)) (sym (map_more view xs i x l ∙ ap (λ y. map view (take i xs) ++ view y ∷ []) (sym e)))
-
-  pub length_middle : (i : ℕ) (middle : List ℕ) → i ≤ length xs → middle ≡ put_at start (front i) buffer → length middle ≡ length buffer
-  length_middle i middle l e = ap length e ∙ length_put_at start (front i) buffer (omega (arith, length_front i l, front_fits i l))
 
   pub rows_put_more : (i at : ℕ) (x : X) (middle after : List ℕ) → i < length xs → x ≡ get_or xs i x → at ≡ start + i * row_size f
       → middle ≡ put_at start (front i) buffer → after ≡ put_at at (row_bytes f (view x)) middle → after ≡ put_at start (front (i + 1)) buffer
