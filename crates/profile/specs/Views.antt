@@ -1,5 +1,5 @@
 -- The code's rows, headers and profiles as the definitions have them, and how far a profile was read.
-use Rattle.std.specs.Prelude.{◌≡◌, ℕ, ◌<◌, List, map, length, Ok, Err, vec_items, Option, Result, Vec}
+use Rattle.std.specs.Prelude.{◌≡◌, ℕ, ◌<◌, List, [], map, length, Some, None, Ok, Err, vec_items, Option, Result, Vec}
 use Rattle.std.specs.declared.alloc.Global.{Global}
 use Rattle.loads.specs.Formats.{Format}
 use Rattle.terms.specs.declared.refusal.Refusal.{Refusal as Reason}
@@ -9,7 +9,7 @@ use Rattle.profile.specs.declared.row.Profile.{Profile as HeldProfile}
 use Rattle.profile.specs.declared.row.ReadError.{ReadError}
 use Rattle.profile.specs.declared.row.ReadError.TheVariants.{Refused, OutOfMemory}
 use Rattle.profile.specs.Rows.{Row, Profile}
-use Rattle.profile.specs.Wire.{Header, read_rows}
+use Rattle.profile.specs.Wire.{Header, prepend, read_rows}
 
 -- a row, its load told by the counts
 abbrev pub row_of : {L : Type 0} → (L → List ℕ) → HeldRow L → Row
@@ -38,11 +38,18 @@ pub record RowLimits : Type 0 where
   pub horizon : ℕ
   pub before : Option Row
 
--- how far a profile has been read: what the next row has to keep to, and the bytes from it on
+-- how far a profile has been read: what the next row has to keep to, how many rows are left, and the bytes from there on
 pub record Reading : Type 0 where
   pub limits : RowLimits
+  pub left : ℕ
   pub rest : List ℕ
 
--- so many rows read on from there
-abbrev pub read_on : Format → Reading → ℕ → Result (List Row) Reason
-read_on f a n = read_rows f a.limits.horizon a.limits.before n a.rest
+-- the rows that are left
+abbrev pub read_on : Format → Reading → Result (List Row) Reason
+read_on f a = read_rows f a.limits.horizon a.limits.before a.left a.rest
+
+-- the next row and those after it, none where there is no next one
+abbrev pub with_next : Result (Option Row) Reason → Result (List Row) Reason → Result (List Row) Reason
+with_next (Ok (Some r)) later = prepend r later
+with_next (Ok None) later = Ok []
+with_next (Err e) later = Err e

@@ -17,10 +17,7 @@ pub fn check<K: Kind>(bytes: &[u8]) -> Result<Header, Refusal>
     ensures { answered header_of (λ e. e) result ≡ header_read (read_profile K.Kind.format bytes.now) }
 {
     let (header, mut walk) = Walk::<K>::start(bytes)?;
-    for _ in 0..header.count {
-        walk.next_row()?;
-    }
-    walk.finish()?;
+    while walk.next_row()?.is_some() {}
     Ok(header)
 }
 
@@ -28,10 +25,10 @@ pub fn check<K: Kind>(bytes: &[u8]) -> Result<Header, Refusal>
 fn read_rows<K: Kind>(heap: Global, bytes: &[u8]) -> Result<Vec<Row<K::Load>>, ReadError>
     ensures { (p : PlainProfile) → read_profile K.Kind.format bytes.now ≡ Ok p → Collects K.Kind.counts p.rows result }
 {
-    let (header, mut walk) = Walk::<K>::start(bytes)?;
+    let (_, mut walk) = Walk::<K>::start(bytes)?;
     let mut rows = Vec::new(heap);
-    for _ in 0..header.count {
-        rows.push(walk.next_row()?)?;
+    while let Some(row) = walk.next_row()? {
+        rows.push(row)?;
     }
     Ok(rows)
 }
