@@ -55,21 +55,9 @@ module _ (f : Format) (h left : ℕ) (before : Option Row) (bs : List ℕ) (some
 
 -- ---- only whether rows can be read
 
-pub err_prepend : (r : Row) (x : Result (List Row) Refusal) → result_err (prepend r x) ≡ result_err x
-err_prepend r (Ok rs) = refl
-err_prepend r (Err e) = refl
-
 module _ (f : Format) (bs : List ℕ) (h : Header) (header : Ok h ≡ read_header f bs) where
   read_is : read_profile f bs ≡ as_profile h.horizon (read_rows f h.horizon None h.count (drop 9 bs))
   read_is = ap (then_body f (drop 9 bs)) (sym header)
-
-  pub read_refused : (left : Result (List Row) Refusal) → result_err (read_rows f h.horizon None h.count (drop 9 bs)) ≡ result_err left → (e : Refusal) → left ≡ Err e
-      → Err e ≡ header_read (read_profile f bs)
-  read_refused left i e q = go (read_rows f h.horizon None h.count (drop 9 bs)) refl (i ∙ ap result_err q)
-    where
-      go : (x : Result (List Row) Refusal) → read_rows f h.horizon None h.count (drop 9 bs) ≡ x → result_err x ≡ Some e → Err e ≡ header_read (read_profile f bs)
-      go (Ok rs) p q = let z : ◌≡◌ {A = ℕ} 0 1 = cc in absurd (omega arith)
-      go (Err g) p q = let is : g ≡ e = (cc) in sym (ap header_read (read_is ∙ ap (as_profile h.horizon) p) ∙ ap Err is)
 
   pub read_passed : (left : Result (List Row) Refusal) → result_err (read_rows f h.horizon None h.count (drop 9 bs)) ≡ result_err left → left ≡ Ok [] → Ok h ≡ header_read (read_profile f bs)
   read_passed left i q = go (read_rows f h.horizon None h.count (drop 9 bs)) refl (i ∙ ap result_err q)

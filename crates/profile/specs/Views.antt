@@ -1,6 +1,5 @@
 -- The code's rows, headers and profiles as the definitions have them, and how far a profile was read.
-use Rattle.std.specs.Prelude.{◌≡◌, ℕ, ◌<◌, List, [], map, length, Some, None, Ok, Err, vec_items, Option, Result, Vec}
-use Rattle.std.specs.declared.alloc.Global.{Global}
+use Rattle.std.specs.Prelude.{◌≡◌, ℕ, ◌<◌, List, [], map, length, Some, None, Ok, Err, vec_items, Option, Result}
 use Rattle.loads.specs.Formats.{Format}
 use Rattle.terms.specs.declared.refusal.Refusal.{Refusal as Reason}
 use Rattle.profile.specs.declared.row.Row.{Row as HeldRow}
@@ -26,12 +25,6 @@ abbrev pub Tells : {L : Type 0} → (L → List ℕ) → Result Profile Reason �
 Tells counts read (Ok p) = read ≡ Ok (profile_of counts p.horizon (vec_items p.rows))
 Tells counts read (Err (Refused e)) = read ≡ Err e
 Tells counts read (Err OutOfMemory) = (p : Profile) × (read ≡ Ok p) × (0 < length p.rows)
-
--- the same of rows alone, where they can be read
-abbrev pub Collects : {L : Type 0} → (L → List ℕ) → List Row → Result (Vec (HeldRow L) Global) ReadError → Type 0
-Collects counts rs (Ok v) = map (row_of counts) (vec_items v) ≡ rs
-Collects counts rs (Err (Refused e)) = ⊥
-Collects counts rs (Err OutOfMemory) = 0 < length rs
 
 -- what the next row has to keep to: the horizon, and the row before it, if there is one
 pub record RowLimits : Type 0 where

@@ -1,7 +1,7 @@
 use Rattle.std.proofs.Common.{◌≡◌, map, vec_items}
 use Rattle.profile.specs.Views.{row_of, read_on}
 use Rattle.profile.proofs.Steps.{after}
-use Rattle.profile.proofs.read.read_rows.Given as goal
+use Rattle.profile.proofs.read.collect.Given as goal
 
 -- the rows so far, and then those that are left
 abbrev pub invariant-loop-rows : goal.invariant-loop-rows
