@@ -3,7 +3,9 @@ use Rattle.std.proofs.Common.{◌≡◌, ℕ, suc, ◌+◌, ◌-◌, ◌<◌, �
 use borrow.Rule.Slice.PartMut.{put_mid}
 use Rattle.std.proofs.lemmas.List.{take_rest, drop-drop, drop_all, append-nil, append_assoc, take-append-drop, take_at, drop_at}
 use Rattle.std.proofs.lemmas.Bool.{cases_lt, le-leb, lt-leb, cond-true, cond-false}
+use Rattle.loads.specs.Digits.{to_bytes}
 use Rattle.loads.specs.Formats.{put_front}
+use Rattle.loads.specs.Places.{length_to_bytes}
 use Rattle.loads.proofs.Fronts.{put_long, put_short}
 use Rattle.profile.specs.Wire.{put_at}
 
@@ -70,13 +72,16 @@ front_before xs ys buffer middle after n e h m a =
     ∙ (sym (append_assoc xs ys (drop (n + length ys) buffer))
     ∙ sym (put_long (xs ++ ys) buffer (n + length ys) (length-append xs ys ∙ ap (λ k. k + length ys) e) h))))
 
--- ---- a first byte, and then others
+-- ---- a first byte, and then two words
 
-module _ (first : ℕ) (xs rest new buffer : List ℕ) (is : buffer ≡ first ∷ rest) (put : new ≡ put_front xs rest) where
-  pub first_kept : (x : ℕ) → length rest < length xs → first ∷ new ≡ put_front (x ∷ xs) buffer
-  first_kept x h = ap (λ bs. first ∷ bs) (put ∙ sym (put_short xs rest h)) ∙ (sym is ∙ put_short (x ∷ xs) buffer (omega (arith, ap length is)))
+module _ (first a b : ℕ) (rest new buffer : List ℕ) (is : buffer ≡ first ∷ rest) (put : new ≡ put_front (to_bytes 4 a ++ to_bytes 4 b) rest) where
+  length_words : length (to_bytes 4 a ++ to_bytes 4 b) ≡ 8
+  length_words = length-append (to_bytes 4 a) (to_bytes 4 b) ∙ ap₂ ◌+◌ (length_to_bytes 4 a) (length_to_bytes 4 b)
 
-  pub first_put : (x : ℕ) → length xs ≤ length rest → x ∷ new ≡ put_front (x ∷ xs) buffer
+  pub first_kept : length rest < 8 → first ∷ new ≡ buffer
+  first_kept h = ap (λ bs. first ∷ bs) (put ∙ sym (put_short (to_bytes 4 a ++ to_bytes 4 b) rest (omega (arith, length_words)))) ∙ sym is
+
+  pub first_put : (x : ℕ) → 8 ≤ length rest → x ∷ new ≡ put_front (x ∷ (to_bytes 4 a ++ to_bytes 4 b)) buffer
   first_put x h =
-      ap (λ bs. x ∷ bs) (put ∙ put_long xs rest (length xs) refl h)
-      ∙ sym (ap (put_front (x ∷ xs)) is ∙ put_long (x ∷ xs) (first ∷ rest) (suc (length xs)) refl (omega arith))
+      ap (λ bs. x ∷ bs) (put ∙ put_long (to_bytes 4 a ++ to_bytes 4 b) rest 8 length_words h)
+      ∙ sym (ap (put_front (x ∷ (to_bytes 4 a ++ to_bytes 4 b))) is ∙ put_long (x ∷ (to_bytes 4 a ++ to_bytes 4 b)) (first ∷ rest) 9 (ap suc length_words) (omega arith))

@@ -44,6 +44,7 @@ pub fn read<K: Kind>(heap: Global, bytes: &[u8]) -> Result<Profile<K::Load>, Rea
     ensures rows_are_runs { RowsAreRuns K.Kind.format }
     ensures one_writing { OneWriting K.Kind.format }
 {
+    // Two walks: memory is asked for only where the bytes are a profile.
     check::<K>(bytes)?;
     collect::<K>(heap, bytes)
 }
