@@ -1,14 +1,13 @@
 -- Rows checked and written one by one, and the room that they want.
-use Rattle.std.proofs.Common.{◌≡◌, ℕ, zero, suc, ◌+◌, ◌-◌, ◌*◌, ◌^◌, ◌<◌, ◌≤◌, Bool, true, false, cond, leb, List, [], ◌∷◌, ◌++◌, map, length, get_or, take, drop, Some, None, Option, sym, refl, ap, ◌∙◌, ap₂, inl, inr, mul-le-mul_right, mul_comm, add-mul, mul-zero, arith, length-append, length-drop, length-take}
+use Rattle.std.proofs.Common.{◌≡◌, ℕ, ◌+◌, ◌-◌, ◌*◌, ◌<◌, ◌≤◌, leb, List, [], ◌∷◌, ◌++◌, map, length, get_or, take, drop, Some, None, Option, sym, ap, ◌∙◌, ap₂, inl, inr, mul-le-mul_right, add-mul, arith, length-append, length-drop, length-take}
 use lib.ListN.{length-map}
-use Rattle.std.specs.Bool.{then_some}
 use Rattle.std.specs.List.{flat_map, AllByRecursion}
 use Rattle.std.proofs.lemmas.List.{flat_map_more, map_more}
 use Rattle.std.proofs.lemmas.Option.{cond_some, none-some}
-use Rattle.std.proofs.lemmas.Bool.{cases_lt, leb-true, le-leb, lt-leb, cond-true, cond-false}
+use Rattle.std.proofs.lemmas.Bool.{cases_lt, leb-true, le-leb, cond-true}
 use borrow.Rule.Slice.PartMut.{put_mid}
 use Rattle.loads.specs.Digits.{to_bytes}
-use Rattle.loads.specs.Formats.{Format, Counted, Lawful, told, put_front}
+use Rattle.loads.specs.Formats.{Format, Counted, Lawful, put_front}
 use Rattle.loads.specs.Places.{length_to_bytes}
 use Rattle.profile.specs.Rows.{Row, end_before, rows_fault}
 use Rattle.profile.specs.Wire.{row_bytes, row_size, put_at, place_after}
@@ -27,42 +26,6 @@ rows_few h before (r ∷ rs) e l =
     let b = c.0.later in
     let d = rows_few h (Some r) rs c.1 c.0.below in
     omega arith
-
--- ---- room
-
-some_cond : (b : Bool) (n : ℕ) → then_some b n ≡ cond b (Some n) None
-some_cond true n = refl
-some_cond false n = refl
-
--- the length of a row, which stops at the largest number
-abbrev row_told : ℕ → ℕ
-row_told size = told (8 + size)
-
--- the place after so many rows, none where it is past the buffer
-end_is : (size n at end : ℕ) (buffer : List ℕ) → length buffer < 2 ^ 64 - 1 → end ≡ row_told size * n + at
-    → then_some (leb end (length buffer)) end ≡ place_after at (n * (8 + size)) buffer
-end_is size n at end buffer h e = elim (cases_lt (8 + size) (2 ^ 64)) [
-  | inl s ↦
-      let t : row_told size ≡ 8 + size = omega arith in
-      let m : row_told size * n ≡ n * (8 + size) = ap (λ (d : ℕ). d * n) t ∙ mul_comm (8 + size) n in
-      let is : end ≡ at + n * (8 + size) = omega arith in
-      ap (λ k. then_some (leb k (length buffer)) k) is ∙ some_cond (leb (at + n * (8 + size)) (length buffer)) (at + n * (8 + size))
-  | inr s ↦ past n s e
-]
-  where
-    past : (i : ℕ) → 2 ^ 64 ≤ 8 + size → end ≡ row_told size * i + at → then_some (leb end (length buffer)) end ≡ place_after at (i * (8 + size)) buffer
-    past zero s q =
-        let is : end ≡ at + 0 * (8 + size) = omega (arith, mul-zero (row_told size)) in
-        ap (λ k. then_some (leb k (length buffer)) k) is ∙ some_cond (leb (at + 0 * (8 + size)) (length buffer)) (at + 0 * (8 + size))
-    past (suc i) s q =
-        let t : row_told size ≡ 2 ^ 64 - 1 = omega arith in
-        let far : length buffer < end = omega (arith, mul_comm (row_told size) (suc i), add-mul 1 i (row_told size)) in
-        let past_all : length buffer < at + suc i * (8 + size) = omega (arith, add-mul 1 i (8 + size)) in
-        ap (λ b. then_some b end) (lt-leb end (length buffer) far) ∙ sym (cond-false _ _ _ (lt-leb (at + suc i * (8 + size)) (length buffer) past_all))
-
-pub end_told : (size n at row len end : ℕ) (buffer : List ℕ) (o : Option ℕ) → length buffer < 2 ^ 64 - 1 → row ≡ row_told size → len ≡ row * n → end ≡ len + at
-    → o ≡ then_some (leb end (length buffer)) end → o ≡ place_after at (n * (8 + size)) buffer
-end_told size n at row len end buffer o h r l e t = t ∙ end_is size n at end buffer h (e ∙ ap (λ k. k + at) (l ∙ ap (λ d. d * n) r))
 
 -- ---- places
 
