@@ -1,15 +1,13 @@
 -- Bytes put into a buffer part by part, and at a place.
-use Rattle.std.proofs.Common.{◌≡◌, ℕ, ◌+◌, ◌-◌, ◌<◌, ◌≤◌, cond, leb, List, [], ◌++◌, length, take, drop, sym, refl, ap, ◌∙◌, ap₂, inl, inr, zero-add, arith, length-append, length-drop, length-take}
+use Rattle.std.proofs.Common.{◌≡◌, ℕ, suc, ◌+◌, ◌-◌, ◌<◌, ◌≤◌, List, [], ◌∷◌, ◌++◌, length, take, drop, sym, refl, ap, ◌∙◌, ap₂, inl, inr, arith, length-append, length-drop, length-take}
 use borrow.Rule.Slice.PartMut.{put_mid}
 use Rattle.std.proofs.lemmas.List.{take_rest, drop-drop, drop_all, append-nil, append_assoc, take-append-drop, take_at, drop_at}
 use Rattle.std.proofs.lemmas.Bool.{cases_lt, le-leb, lt-leb, cond-true, cond-false}
+use Rattle.loads.specs.Digits.{to_bytes}
 use Rattle.loads.specs.Formats.{put_front}
+use Rattle.loads.specs.Places.{length_to_bytes}
 use Rattle.loads.proofs.Fronts.{put_long, put_short}
 use Rattle.profile.specs.Wire.{put_at}
-
--- put at place 0, as at the front
-put_at_front : (bs buffer : List ℕ) → put_at 0 bs buffer ≡ put_front bs buffer
-put_at_front bs buffer = ap (λ n. cond (leb n (length buffer)) (bs ++ drop n buffer) buffer) (zero-add (length bs))
 
 module _ (at : ℕ) (bs buffer : List ℕ) where
   pub put_at_long : at + length bs ≤ length buffer → put_at at bs buffer ≡ take at buffer ++ (bs ++ drop (at + length bs) buffer)
@@ -60,8 +58,30 @@ put_more at xs ys buffer middle after next e n h a =
     ∙ (ap (λ p. take at buffer ++ p) (sym (append_assoc xs ys (drop (at + length (xs ++ ys)) buffer)))
     ∙ sym (put_at_long at (xs ++ ys) buffer (omega arith))))))
 
--- bytes at the front, and then more bytes
-pub front_more : (xs ys buffer middle after : List ℕ) (n : ℕ) → middle ≡ put_front xs buffer → n ≡ length xs → n + length ys ≤ length buffer
-    → after ≡ put_at n ys middle → after ≡ put_front (xs ++ ys) buffer
-front_more xs ys buffer middle after n e k h a =
-    put_more 0 xs ys buffer middle after n (e ∙ sym (put_at_front xs buffer)) (omega arith) (omega arith) a ∙ put_at_front (xs ++ ys) buffer
+-- bytes at the front, before those that were put after them
+pub front_before : (xs ys buffer middle after : List ℕ) (n : ℕ) → length xs ≡ n → n + length ys ≤ length buffer → middle ≡ put_at n ys buffer → after ≡ put_front xs middle
+    → after ≡ put_front (xs ++ ys) buffer
+front_before xs ys buffer middle after n e h m a =
+    let rest = ys ++ drop (n + length ys) buffer in
+    let is : middle ≡ take n buffer ++ rest = m ∙ put_at_long n ys buffer h in
+    let t : length (take n buffer) ≡ n = length-take n buffer ∙ omega arith in
+    let l : n ≤ length middle = omega (arith, ap length is, length-append (take n buffer) rest) in
+    a
+    ∙ (put_long xs middle n e l
+    ∙ (ap (λ bs. xs ++ bs) (ap (drop n) is ∙ drop_at (take n buffer) rest n t)
+    ∙ (sym (append_assoc xs ys (drop (n + length ys) buffer))
+    ∙ sym (put_long (xs ++ ys) buffer (n + length ys) (length-append xs ys ∙ ap (λ k. k + length ys) e) h))))
+
+-- ---- a first byte, and then two words
+
+module _ (first a b : ℕ) (rest new buffer : List ℕ) (is : buffer ≡ first ∷ rest) (put : new ≡ put_front (to_bytes 4 a ++ to_bytes 4 b) rest) where
+  length_words : length (to_bytes 4 a ++ to_bytes 4 b) ≡ 8
+  length_words = length-append (to_bytes 4 a) (to_bytes 4 b) ∙ ap₂ ◌+◌ (length_to_bytes 4 a) (length_to_bytes 4 b)
+
+  pub first_kept : length rest < 8 → first ∷ new ≡ buffer
+  first_kept h = ap (λ bs. first ∷ bs) (put ∙ sym (put_short (to_bytes 4 a ++ to_bytes 4 b) rest (omega (arith, length_words)))) ∙ sym is
+
+  pub first_put : (x : ℕ) → 8 ≤ length rest → x ∷ new ≡ put_front (x ∷ (to_bytes 4 a ++ to_bytes 4 b)) buffer
+  first_put x h =
+      ap (λ bs. x ∷ bs) (put ∙ put_long (to_bytes 4 a ++ to_bytes 4 b) rest 8 length_words h)
+      ∙ sym (ap (put_front (x ∷ (to_bytes 4 a ++ to_bytes 4 b))) is ∙ put_long (x ∷ (to_bytes 4 a ++ to_bytes 4 b)) (first ∷ rest) 9 (ap suc length_words) (omega arith))

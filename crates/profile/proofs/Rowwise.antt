@@ -1,14 +1,13 @@
 -- Rows checked and written one by one, and the room that they want.
-use Rattle.std.proofs.Common.{◌≡◌, ℕ, zero, suc, ◌+◌, ◌-◌, ◌*◌, ◌^◌, ◌<◌, ◌≤◌, Bool, true, false, cond, leb, List, [], ◌∷◌, ◌++◌, map, length, get_or, take, drop, Some, None, Option, sym, refl, ap, ◌∙◌, ap₂, inl, inr, mul-le-mul_right, mul_comm, add-mul, mul-zero, arith, length-append, length-drop, length-take}
+use Rattle.std.proofs.Common.{◌≡◌, ℕ, ◌+◌, ◌-◌, ◌*◌, ◌<◌, ◌≤◌, leb, List, [], ◌∷◌, ◌++◌, map, length, get_or, take, drop, Some, None, Option, sym, ap, ◌∙◌, ap₂, inl, inr, mul-le-mul_right, add-mul, arith, length-append, length-drop, length-take}
 use lib.ListN.{length-map}
-use Rattle.std.specs.Bool.{then_some}
 use Rattle.std.specs.List.{flat_map, AllByRecursion}
 use Rattle.std.proofs.lemmas.List.{flat_map_more, map_more}
 use Rattle.std.proofs.lemmas.Option.{cond_some, none-some}
-use Rattle.std.proofs.lemmas.Bool.{cases_lt, leb-true, le-leb, lt-leb, cond-true, cond-false}
+use Rattle.std.proofs.lemmas.Bool.{cases_lt, leb-true, le-leb, cond-true}
 use borrow.Rule.Slice.PartMut.{put_mid}
 use Rattle.loads.specs.Digits.{to_bytes}
-use Rattle.loads.specs.Formats.{Format, Counted, Lawful, told, put_front}
+use Rattle.loads.specs.Formats.{Format, Counted, Lawful, put_front}
 use Rattle.loads.specs.Places.{length_to_bytes}
 use Rattle.profile.specs.Rows.{Row, end_before, rows_fault}
 use Rattle.profile.specs.Wire.{row_bytes, row_size, put_at, place_after}
@@ -27,42 +26,6 @@ rows_few h before (r ∷ rs) e l =
     let b = c.0.later in
     let d = rows_few h (Some r) rs c.1 c.0.below in
     omega arith
-
--- ---- room
-
-some_cond : (b : Bool) (n : ℕ) → then_some b n ≡ cond b (Some n) None
-some_cond true n = refl
-some_cond false n = refl
-
--- the length of a row, which stops at the largest number
-abbrev row_told : ℕ → ℕ
-row_told size = told (8 + size)
-
--- the place after so many rows, none where it is past the buffer
-end_is : (size n at end : ℕ) (buffer : List ℕ) → length buffer < 2 ^ 64 - 1 → end ≡ row_told size * n + at
-    → then_some (leb end (length buffer)) end ≡ place_after at (n * (8 + size)) buffer
-end_is size n at end buffer h e = elim (cases_lt (8 + size) (2 ^ 64)) [
-  | inl s ↦
-      let t : row_told size ≡ 8 + size = omega arith in
-      let m : row_told size * n ≡ n * (8 + size) = ap (λ (d : ℕ). d * n) t ∙ mul_comm (8 + size) n in
-      let is : end ≡ at + n * (8 + size) = omega arith in
-      ap (λ k. then_some (leb k (length buffer)) k) is ∙ some_cond (leb (at + n * (8 + size)) (length buffer)) (at + n * (8 + size))
-  | inr s ↦ past n s e
-]
-  where
-    past : (i : ℕ) → 2 ^ 64 ≤ 8 + size → end ≡ row_told size * i + at → then_some (leb end (length buffer)) end ≡ place_after at (i * (8 + size)) buffer
-    past zero s q =
-        let is : end ≡ at + 0 * (8 + size) = omega (arith, mul-zero (row_told size)) in
-        ap (λ k. then_some (leb k (length buffer)) k) is ∙ some_cond (leb (at + 0 * (8 + size)) (length buffer)) (at + 0 * (8 + size))
-    past (suc i) s q =
-        let t : row_told size ≡ 2 ^ 64 - 1 = omega arith in
-        let far : length buffer < end = omega (arith, mul_comm (row_told size) (suc i), add-mul 1 i (row_told size)) in
-        let past_all : length buffer < at + suc i * (8 + size) = omega (arith, add-mul 1 i (8 + size)) in
-        ap (λ b. then_some b end) (lt-leb end (length buffer) far) ∙ sym (cond-false _ _ _ (lt-leb (at + suc i * (8 + size)) (length buffer) past_all))
-
-pub end_told : (size n at row len end : ℕ) (buffer : List ℕ) (o : Option ℕ) → length buffer < 2 ^ 64 - 1 → row ≡ row_told size → len ≡ row * n → end ≡ len + at
-    → o ≡ then_some (leb end (length buffer)) end → o ≡ place_after at (n * (8 + size)) buffer
-end_told size n at row len end buffer o h r l e t = t ∙ end_is size n at end buffer h (e ∙ ap (λ k. k + at) (l ∙ ap (λ d. d * n) r))
 
 -- ---- places
 
@@ -92,17 +55,17 @@ module _ (f : Format) (lawful : Lawful f) (r : Row) (counted : Counted f r.load)
       sym (put_at_short at (row_bytes f r) buffer (omega (arith, length_row f lawful r counted)))
 
   -- offset and length, and then the image after them
-  pub row_put : (end : ℕ) (span front rest : List ℕ) → Some end ≡ place_after at (1 * row_size f) buffer → span ≡ to_bytes 4 r.offset ++ to_bytes 4 r.minutes
-      → front ≡ put_front span (take (length buffer - at) (drop at buffer))
+  pub row_put : (end : ℕ) (front rest : List ℕ) → Some end ≡ place_after at (1 * row_size f) buffer
+      → front ≡ put_front (to_bytes 4 r.offset ++ to_bytes 4 r.minutes) (take (length buffer - at) (drop at buffer))
       → rest ≡ put_front (f.image r.load) (take (length (put_mid at (length buffer - at) buffer front) - (at + 8)) (drop (at + 8) (put_mid at (length buffer - at) buffer front)))
       → put_mid (at + 8) (length (put_mid at (length buffer - at) buffer front) - (at + 8)) (put_mid at (length buffer - at) buffer front) rest ≡ put_at at (row_bytes f r) buffer
-  row_put end span front rest e s a b =
+  row_put end front rest e a b =
       let words = to_bytes 4 r.offset ++ to_bytes 4 r.minutes in
       let one = put_mid at (length buffer - at) buffer front in
       let l : length words ≡ 8 = length-append (to_bytes 4 r.offset) (to_bytes 4 r.minutes) ∙ ap₂ ◌+◌ (length_to_bytes 4 r.offset) (length_to_bytes 4 r.minutes) in
       let i = lawful.sized r.load counted in
       let fits = (place_some end at (1 * row_size f) buffer e).1 in
-      let first : one ≡ put_at at words buffer = put_at_is at span buffer front (omega arith) a ∙ ap (λ bs. put_at at bs buffer) s in
+      let first : one ≡ put_at at words buffer = put_at_is at words buffer front (omega arith) a in
       let same : length one ≡ length buffer = ap length first ∙ length_put_at at words buffer (omega arith) in
       put_more at words (f.image r.load) buffer one _ (at + 8) first (omega arith) (omega arith) (put_at_is (at + 8) (f.image r.load) one rest (omega arith) b)
 
@@ -120,20 +83,17 @@ module _ {X : Type 0} (f : Format) (lawful : Lawful f) (view : X → Row) (count
   abbrev pub front : ℕ → List ℕ
   front i = flat_map (row_bytes f) (map view (take i xs))
 
-  pub length_front : (i : ℕ) → i ≤ length xs → length (front i) ≡ i * row_size f
+  length_front : (i : ℕ) → i ≤ length xs → length (front i) ≡ i * row_size f
   length_front i l =
       length_all f lawful view counted (take i xs) ∙ ap (λ (n : ℕ). n * row_size f) (length-take i xs ∙ omega arith)
 
-  pub front_fits : (i : ℕ) → i ≤ length xs → start + i * row_size f ≤ length buffer
+  front_fits : (i : ℕ) → i ≤ length xs → start + i * row_size f ≤ length buffer
   front_fits i l = omega (arith, mul-le-mul_right (row_size f) l)
 
   front_more : (i : ℕ) (x : X) → i < length xs → x ≡ get_or xs i x → front i ++ row_bytes f (view x) ≡ front (i + 1)
   front_more i x l e =
       flat_map_more (row_bytes f) [] (map view (take i xs)) (view x)
       ∙ ap (flat_map (row_bytes f)) (sym (map_more view xs i x l ∙ ap (λ y. map view (take i xs) ++ view y ∷ []) (sym e)))
-
-  pub length_middle : (i : ℕ) (middle : List ℕ) → i ≤ length xs → middle ≡ put_at start (front i) buffer → length middle ≡ length buffer
-  length_middle i middle l e = ap length e ∙ length_put_at start (front i) buffer (omega (arith, length_front i l, front_fits i l))
 
   pub rows_put_more : (i at : ℕ) (x : X) (middle after : List ℕ) → i < length xs → x ≡ get_or xs i x → at ≡ start + i * row_size f
       → middle ≡ put_at start (front i) buffer → after ≡ put_at at (row_bytes f (view x)) middle → after ≡ put_at start (front (i + 1)) buffer

@@ -1,10 +1,13 @@
 -- The rows of a profile read one by one.
-use Rattle.std.proofs.Common.{◌≡◌, ℕ, zero, suc, ◌+◌, ◌-◌, ◌<◌, ◌≤◌, List, [], ◌∷◌, ◌++◌, map, length, drop, Some, None, Ok, Err, Option, Result, sym, refl, ap, ◌∙◌, add-one, arith}
+use Rattle.std.proofs.Common.{◌≡◌, ℕ, false, zero, suc, ◌-◌, ◌<◌, List, [], ◌∷◌, ◌++◌, map, length, drop, Some, None, Ok, Err, Option, Result, sym, refl, ap, ◌∙◌, arith, length-append}
+use Rattle.std.specs.Option.{is_some, option_map}
 use Rattle.std.specs.Result.{result_err}
-use Rattle.std.proofs.lemmas.List.{append_assoc, append-nil, map_push}
+use Rattle.std.proofs.lemmas.Bool.{false≢true}
+use Rattle.std.proofs.lemmas.List.{append_assoc, map_push}
 use Rattle.terms.specs.declared.refusal.Refusal.{Refusal}
 use Rattle.loads.specs.Formats.{Format}
 use Rattle.profile.specs.Rows.{Row, Profile, row_fault, unless}
+use Rattle.profile.specs.Views.{with_next}
 use Rattle.profile.specs.Wire.{row_size, Header, read_header, row_at, checked, next_row, prepend, then_rows, read_rows, as_profile, then_body, read_profile, header_read}
 
 -- no value is two constructors
@@ -36,37 +39,25 @@ module _ (f : Format) (h : ℕ) where
 
 -- ---- one row, within what it has to keep to
 
-module _ (f : Format) (h n : ℕ) (before : Option Row) (bs : List ℕ) where
+module _ (f : Format) (h left : ℕ) (before : Option Row) (bs : List ℕ) (some : 0 < left) where
   -- a row, and then the others
-  next_is : read_rows f h before (n + 1) bs ≡ then_rows (next_row f h before bs) (λ r. read_rows f h (Some r) n (drop (row_size f) bs))
-  next_is = rw add-one refl
+  next_is : read_rows f h before left bs ≡ then_rows (next_row f h before bs) (λ r. read_rows f h (Some r) (left - 1) (drop (row_size f) bs))
+  next_is = let e : left ≡ suc (left - 1) = omega arith in ap (λ n. read_rows f h before n bs) e
 
-  pub row_missing : (e : Refusal) → Err e ≡ row_at f bs → read_rows f h before (n + 1) bs ≡ Err e
-  row_missing e q = next_is ∙ ap (λ x. then_rows (checked h before x) (λ r. read_rows f h (Some r) n (drop (row_size f) bs))) (sym q)
+  pub row_missing : (e : Refusal) → Err e ≡ row_at f bs → read_rows f h before left bs ≡ Err e
+  row_missing e q = next_is ∙ ap (λ x. then_rows (checked h before x) (λ r. read_rows f h (Some r) (left - 1) (drop (row_size f) bs))) (sym q)
 
-  pub row_refused : {X : Type 0} (r : Row) (e : Refusal) (x : X) → Ok r ≡ row_at f bs → Err e ≡ unless (row_fault h before r) x → read_rows f h before (n + 1) bs ≡ Err e
+  pub row_refused : {X : Type 0} (r : Row) (e : Refusal) (x : X) → Ok r ≡ row_at f bs → Err e ≡ unless (row_fault h before r) x → read_rows f h before left bs ≡ Err e
   row_refused r e x q k =
       next_is
-      ∙ (ap (λ x. then_rows (checked h before x) (λ r. read_rows f h (Some r) n (drop (row_size f) bs))) (sym q)
-      ∙ ap (λ x. then_rows x (λ r. read_rows f h (Some r) n (drop (row_size f) bs))) (unless_err (row_fault h before r) e x r k))
+      ∙ (ap (λ x. then_rows (checked h before x) (λ r. read_rows f h (Some r) (left - 1) (drop (row_size f) bs))) (sym q)
+      ∙ ap (λ x. then_rows x (λ r. read_rows f h (Some r) (left - 1) (drop (row_size f) bs))) (unless_err (row_fault h before r) e x r k))
 
 -- ---- only whether rows can be read
-
-pub err_prepend : (r : Row) (x : Result (List Row) Refusal) → result_err (prepend r x) ≡ result_err x
-err_prepend r (Ok rs) = refl
-err_prepend r (Err e) = refl
 
 module _ (f : Format) (bs : List ℕ) (h : Header) (header : Ok h ≡ read_header f bs) where
   read_is : read_profile f bs ≡ as_profile h.horizon (read_rows f h.horizon None h.count (drop 9 bs))
   read_is = ap (then_body f (drop 9 bs)) (sym header)
-
-  pub read_refused : (left : Result (List Row) Refusal) → result_err (read_rows f h.horizon None h.count (drop 9 bs)) ≡ result_err left → (e : Refusal) → left ≡ Err e
-      → Err e ≡ header_read (read_profile f bs)
-  read_refused left i e q = go (read_rows f h.horizon None h.count (drop 9 bs)) refl (i ∙ ap result_err q)
-    where
-      go : (x : Result (List Row) Refusal) → read_rows f h.horizon None h.count (drop 9 bs) ≡ x → result_err x ≡ Some e → Err e ≡ header_read (read_profile f bs)
-      go (Ok rs) p q = let z : ◌≡◌ {A = ℕ} 0 1 = cc in absurd (omega arith)
-      go (Err g) p q = let is : g ≡ e = (cc) in sym (ap header_read (read_is ∙ ap (as_profile h.horizon) p) ∙ ap Err is)
 
   pub read_passed : (left : Result (List Row) Refusal) → result_err (read_rows f h.horizon None h.count (drop 9 bs)) ≡ result_err left → left ≡ Ok [] → Ok h ≡ header_read (read_profile f bs)
   read_passed left i q = go (read_rows f h.horizon None h.count (drop 9 bs)) refl (i ∙ ap result_err q)
@@ -84,54 +75,30 @@ abbrev pub after : List Row → Result (List Row) Refusal → Result (List Row) 
 after rs (Ok qs) = Ok (rs ++ qs)
 after rs (Err e) = Err e
 
-after_none : (x : Result (List Row) Refusal) → x ≡ after [] x
-after_none (Ok qs) = refl
-after_none (Err e) = refl
-
-pub after_start : (x left : Result (List Row) Refusal) (rs : List Row) → rs ≡ [] → x ≡ left → x ≡ after rs left
-after_start x left rs e q = q ∙ (after_none left ∙ ap (λ ps. after ps left) (sym e))
-
 after_push : (rs : List Row) (r : Row) (x : Result (List Row) Refusal) → after rs (prepend r x) ≡ after (rs ++ r ∷ []) x
 after_push rs r (Ok qs) = ap Ok (sym (append_assoc rs (r ∷ []) qs))
 after_push rs r (Err e) = refl
 
--- the rows that were read are those that were pushed, and no fault came between
-pub rows_ended : (f : Format) (h : ℕ) (before : Option Row) (bs : List ℕ) (x left : Result (List Row) Refusal) (rs qs : List Row) → x ≡ after rs left → left ≡ read_rows f h before 0 bs
-    → x ≡ Ok qs → rs ≡ qs
-rows_ended f h before [] x left rs qs i l q = let e : x ≡ Ok (rs ++ []) = i ∙ ap (after rs) l in sym (append-nil rs) ∙ (cc)
-rows_ended f h before (b ∷ bs) x left rs qs i l q = absurd (ok_not_err (sym (i ∙ ap (after rs) l) ∙ q))
+module _ {X : Type 0} (view : X → Row) (xs : List X) (x : X) (all left later : Result (List Row) Refusal) (before : all ≡ after (map view xs) left) (next : left ≡ prepend (view x) later) where
+  joined : all ≡ after (map view xs ++ view x ∷ []) later
+  joined = before ∙ (ap (after (map view xs)) next ∙ after_push (map view xs) (view x) later)
 
-pub not_stopped : (x left : Result (List Row) Refusal) (rs qs : List Row) (e : Refusal) → x ≡ after rs left → left ≡ Err e → x ≡ Ok qs → ⊥
-not_stopped x left rs qs e i l q = ok_not_err (sym (i ∙ ap (after rs) l) ∙ q)
+  pub after_more : (ys : List X) → ys ≡ xs ++ x ∷ [] → all ≡ after (map view ys) later
+  after_more ys e = joined ∙ ap (λ rs. after rs later) (sym (ap (map view) e ∙ map_push view xs x))
 
--- ---- a row taken from those that are left
+  pub some_row : (ps : List Row) → all ≡ Ok ps → 0 < length ps
+  some_row ps e = go later (sym joined ∙ e)
+    where
+      go : (y : Result (List Row) Refusal) → after (map view xs ++ view x ∷ []) y ≡ Ok ps → 0 < length ps
+      go (Err g) q = absurd (ok_not_err q)
+      go (Ok qs) q =
+          let is : (map view xs ++ view x ∷ []) ++ qs ≡ ps = (cc) in
+          omega (arith, ap length (sym is), length-append (map view xs ++ view x ∷ []) qs, length-append (map view xs) (view x ∷ []))
 
-module _ (on next : ℕ → Result (List Row) Refusal) (n i : ℕ) (some : i < n) where
-  left_is : n - i ≡ (n - (i + 1)) + 1
-  left_is = omega arith
-
-  pub left_stop : (e : Refusal) → ((k : ℕ) → on (k + 1) ≡ Err e) → on (n - i) ≡ Err e
-  left_stop e stop = ap on left_is ∙ stop (n - (i + 1))
-
-  left_more : (r : Row) → ((k : ℕ) → on (k + 1) ≡ prepend r (next k)) → on (n - i) ≡ prepend r (next (n - (i + 1)))
-  left_more r more = ap on left_is ∙ more (n - (i + 1))
-
-  -- of all rows, before and after this one
-  pub err_more : (all : Result (List Row) Refusal) (r : Row) → result_err all ≡ result_err (on (n - i)) → ((k : ℕ) → on (k + 1) ≡ prepend r (next k)) → result_err all ≡ result_err (next (n - (i + 1)))
-  err_more all r before more = before ∙ (ap result_err (left_more r more) ∙ err_prepend r (next (n - (i + 1))))
-
-  pub after_more : {X : Type 0} (all : Result (List Row) Refusal) (view : X → Row) (xs ys : List X) (x : X) → ys ≡ xs ++ x ∷ [] → all ≡ after (map view xs) (on (n - i))
-      → ((k : ℕ) → on (k + 1) ≡ prepend (view x) (next k)) → all ≡ after (map view ys) (next (n - (i + 1)))
-  after_more all view xs ys x e before more =
-      before
-      ∙ (ap (after (map view xs)) (left_more (view x) more)
-      ∙ (after_push (map view xs) (view x) (next (n - (i + 1))) ∙ ap (λ rs. after rs (next (n - (i + 1)))) (sym (ap (map view) e ∙ map_push view xs x))))
-
-pub left_none : (on : ℕ → Result (List Row) Refusal) (n i : ℕ) → n ≤ i → (x : Result (List Row) Refusal) → x ≡ on 0 → on (n - i) ≡ x
-left_none on n i h x q = let e : n - i ≡ 0 = omega arith in ap on e ∙ sym q
-
-pub left_all : (on next : ℕ → Result (List Row) Refusal) (n : ℕ) → ((k : ℕ) → next k ≡ on k) → on n ≡ next (n - 0)
-left_all on next n same = let e : n ≡ n - 0 = omega arith in ap on e ∙ sym (same (n - 0))
+-- no next row
+pub none_next : {X : Type 0} (o : Option X) (view : X → Row) (x later : Result (List Row) Refusal) → is_some o ≡ false → x ≡ with_next (Ok (option_map view o)) later → x ≡ Ok []
+none_next None view x later n e = e
+none_next (Some r) view x later n e = absurd (false≢true (sym n))
 
 -- ---- from the header of a profile to its rows
 

@@ -1,17 +1,14 @@
--- The code's rows, headers and profiles as the definitions have them.
-use Rattle.std.specs.Prelude.{◌≡◌, ℕ, ◌<◌, List, map, length, Ok, Err, vec_items, Option, Result, Vec}
-use Rattle.std.specs.declared.alloc.Global.{Global}
-use Rattle.std.specs.Option.{option_map}
+-- The code's rows, headers and profiles as the definitions have them, and how far a profile was read.
+use Rattle.std.specs.Prelude.{◌≡◌, ℕ, ◌<◌, List, [], map, length, Some, None, Ok, Err, vec_items, Option, Result}
 use Rattle.loads.specs.Formats.{Format}
 use Rattle.terms.specs.declared.refusal.Refusal.{Refusal as Reason}
-use Rattle.profile.specs.declared.limits.Limits.{Limits}
 use Rattle.profile.specs.declared.row.Row.{Row as HeldRow}
 use Rattle.profile.specs.declared.row.Header.{Header as HeldHeader}
 use Rattle.profile.specs.declared.row.Profile.{Profile as HeldProfile}
 use Rattle.profile.specs.declared.row.ReadError.{ReadError}
 use Rattle.profile.specs.declared.row.ReadError.TheVariants.{Refused, OutOfMemory}
 use Rattle.profile.specs.Rows.{Row, Profile}
-use Rattle.profile.specs.Wire.{Header, read_rows}
+use Rattle.profile.specs.Wire.{Header, prepend, read_rows}
 
 -- a row, its load told by the counts
 abbrev pub row_of : {L : Type 0} → (L → List ℕ) → HeldRow L → Row
@@ -29,16 +26,23 @@ Tells counts read (Ok p) = read ≡ Ok (profile_of counts p.horizon (vec_items p
 Tells counts read (Err (Refused e)) = read ≡ Err e
 Tells counts read (Err OutOfMemory) = (p : Profile) × (read ≡ Ok p) × (0 < length p.rows)
 
--- the same of rows alone, where they can be read
-abbrev pub Collects : {L : Type 0} → (L → List ℕ) → List Row → Result (Vec (HeldRow L) Global) ReadError → Type 0
-Collects counts rs (Ok v) = map (row_of counts) (vec_items v) ≡ rs
-Collects counts rs (Err (Refused e)) = ⊥
-Collects counts rs (Err OutOfMemory) = 0 < length rs
+-- what the next row has to keep to: the horizon, and the row before it, if there is one
+pub record RowLimits : Type 0 where
+  pub horizon : ℕ
+  pub before : Option Row
 
--- the row before the next one
-abbrev pub before_of : {K L : Type 0} → (L → List ℕ) → Limits K L → Option Row
-before_of counts limits = option_map (row_of counts) limits.before
+-- how far a profile has been read: what the next row has to keep to, how many rows are left, and the bytes from there on
+pub record Reading : Type 0 where
+  pub limits : RowLimits
+  pub left : ℕ
+  pub rest : List ℕ
 
--- so many rows read on from bytes, the next one within the limits
-abbrev pub read_on : {K L : Type 0} → Format → (L → List ℕ) → Limits K L → List ℕ → ℕ → Result (List Row) Reason
-read_on f counts limits rest n = read_rows f limits.horizon (before_of counts limits) n rest
+-- the rows that are left
+abbrev pub read_on : Format → Reading → Result (List Row) Reason
+read_on f a = read_rows f a.limits.horizon a.limits.before a.left a.rest
+
+-- the next row and those after it, none where there is no next one
+abbrev pub with_next : Result (Option Row) Reason → Result (List Row) Reason → Result (List Row) Reason
+with_next (Ok (Some r)) later = prepend r later
+with_next (Ok None) later = Ok []
+with_next (Err e) later = Err e

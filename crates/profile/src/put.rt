@@ -1,12 +1,12 @@
 // The parts of a profile, written into a buffer: a header at its front, a row at a place.
-ghost use Rattle.std.specs.Prelude.{◌≡◌, ◌*◌, ◌++◌, length};
+ghost use Rattle.std.specs.Prelude.{◌≡◌, ◌*◌, ◌++◌, length, is_ok, nat_le};
 ghost use Rattle.loads.specs.Digits.{to_bytes};
 ghost use Rattle.loads.specs.Formats.{told, put_front};
 ghost use Rattle.profile.specs.Views.{row_of};
 ghost use Rattle.profile.specs.Wire.{row_bytes, row_size, header_bytes, put_at, place_after};
 
 use crate::row::{Header, Row};
-use loads::kind::Kind;
+use loads::kind::{Kind, Short};
 use loads::word::put_front;
 
 /// The mark, the horizon and the number of rows.
@@ -31,12 +31,15 @@ pub(crate) fn rows_end<K: Kind>(at: usize, rows: usize, buffer: &[u8]) -> Option
     (end <= buffer.len() as u64).then_some(end as usize)
 }
 
-fn word_pair(first: u32, second: u32) -> [u8; SPAN_LEN]
-    ensures { result ≡ to_bytes 4 first ++ to_bytes 4 second }
+// Two numbers at the front of the buffer; nothing is written where it is too short.
+fn put_words(first: u32, second: u32, buffer: &mut [u8]) -> Result<(), Short>
+    ensures fits { is_ok result ≡ nat_le 8 (length buffer.old) }
+    ensures after { buffer.new ≡ put_front (to_bytes 4 first ++ to_bytes 4 second) buffer.old }
 {
-    let [a, b, c, d] = first.to_be_bytes();
-    let [e, f, g, h] = second.to_be_bytes();
-    [a, b, c, d, e, f, g, h]
+    put_front(
+        [first.to_be_bytes(), second.to_be_bytes()].as_flattened(),
+        buffer,
+    )
 }
 
 /// Writes the header at the front of the buffer and tells the place after it; nothing where the buffer is too short.
@@ -44,8 +47,9 @@ pub fn put_header<K: Kind>(header: Header, buffer: &mut [u8]) -> Option<usize>
     ensures place { result ≡ place_after 0 9 buffer.old }
     ensures after { buffer.new ≡ put_front (header_bytes K.Kind.format header.horizon header.count) buffer.old }
 {
-    let [h0, h1, h2, h3, n0, n1, n2, n3] = word_pair(header.horizon, header.count);
-    put_front(&[K::MARK, h0, h1, h2, h3, n0, n1, n2, n3], buffer).ok()?;
+    let (mark, rest) = buffer.split_first_mut()?;
+    put_words(header.horizon, header.count, rest).ok()?;
+    *mark = K::MARK;
     Some(HEADER_LEN)
 }
 
@@ -56,7 +60,7 @@ pub fn put_row<K: Kind>(row: Row<K::Load>, at: usize, buffer: &mut [u8]) -> Opti
     ensures after { buffer.new ≡ put_at at (row_bytes K.Kind.format (row_of K.Kind.counts row)) buffer.old }
 {
     let end = rows_end::<K>(at, 1, buffer)?;
-    put_front(&word_pair(row.offset, row.length), &mut buffer[at..]).ok()?;
+    put_words(row.offset, row.length, &mut buffer[at..]).ok()?;
     K::put(row.load, &mut buffer[at + SPAN_LEN..]).ok()?;
     Some(end)
 }

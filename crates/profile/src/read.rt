@@ -1,12 +1,12 @@
 // Reading a whole profile, with or without its rows.
 ghost use Rattle.std.specs.Prelude.{◌≡◌, Ok};
 ghost use Rattle.std.specs.Result.{result_map_both as answered};
-ghost use Rattle.profile.specs.Views.{header_of, Tells, Collects};
+ghost use Rattle.profile.specs.Views.{header_of, Tells};
 ghost use Rattle.profile.specs.Laws.{AcceptsWritings, RowsAreRuns, OneWriting};
 ghost use Rattle.profile.specs.Wire.{read_profile, header_read};
 ghost use Rattle.profile.specs.Rows.{Profile as PlainProfile};
 
-use crate::row::{Header, Profile, ReadError, Row};
+use crate::row::{Header, Profile, ReadError};
 use crate::walk::Walk;
 use loads::kind::Kind;
 use std::alloc::Global;
@@ -17,23 +17,23 @@ pub fn check<K: Kind>(bytes: &[u8]) -> Result<Header, Refusal>
     ensures { answered header_of (λ e. e) result ≡ header_read (read_profile K.Kind.format bytes.now) }
 {
     let (header, mut walk) = Walk::<K>::start(bytes)?;
-    for _ in 0..header.count {
-        walk.next_row()?;
-    }
-    walk.finish()?;
+    while walk.next_row()?.is_some() {}
     Ok(header)
 }
 
-// The rows of bytes that were found to be a profile.
-fn read_rows<K: Kind>(heap: Global, bytes: &[u8]) -> Result<Vec<Row<K::Load>>, ReadError>
-    ensures { (p : PlainProfile) → read_profile K.Kind.format bytes.now ≡ Ok p → Collects K.Kind.counts p.rows result }
+// The profile of bytes that were found to be one.
+fn collect<K: Kind>(heap: Global, bytes: &[u8]) -> Result<Profile<K::Load>, ReadError>
+    ensures { (p : PlainProfile) → read_profile K.Kind.format bytes.now ≡ Ok p → Tells K.Kind.counts (Ok p) result }
 {
     let (header, mut walk) = Walk::<K>::start(bytes)?;
     let mut rows = Vec::new(heap);
-    for _ in 0..header.count {
-        rows.push(walk.next_row()?)?;
+    while let Some(row) = walk.next_row()? {
+        rows.push(row)?;
     }
-    Ok(rows)
+    Ok(Profile {
+        horizon: header.horizon,
+        rows,
+    })
 }
 
 /// The profile that the bytes are, for one kind, or why they are none. Each load has just one writing: two byte
@@ -44,10 +44,7 @@ pub fn read<K: Kind>(heap: Global, bytes: &[u8]) -> Result<Profile<K::Load>, Rea
     ensures rows_are_runs { RowsAreRuns K.Kind.format }
     ensures one_writing { OneWriting K.Kind.format }
 {
-    let header = check::<K>(bytes)?;
-    let rows = read_rows::<K>(heap, bytes)?;
-    Ok(Profile {
-        horizon: header.horizon,
-        rows,
-    })
+    // Two walks: memory is asked for only where the bytes are a profile.
+    check::<K>(bytes)?;
+    collect::<K>(heap, bytes)
 }

@@ -1,15 +1,17 @@
 // A walk over the bytes of a profile: its header, and then row by row.
-ghost use Rattle.std.specs.Prelude.{◌≡◌, ℕ, ◌+◌, ◌<◌, ◌≤◌, [], length, take, drop, slice_index, None, IfOk, MatchOption};
+ghost use Rattle.std.specs.Prelude.{◌≡◌, ◌<◌, ◌≤◌, length, take, drop, slice_index, None, IfOk, IfSome, MatchOption};
+ghost use Rattle.std.specs.Option.{option_map};
 ghost use Rattle.std.specs.Result.{result_map_both as answered};
 ghost use Rattle.loads.specs.Digits.{from_bytes};
 ghost use Rattle.loads.specs.Formats.{read_front};
-ghost use Rattle.profile.specs.Views.{row_of, header_of, read_on};
-ghost use Rattle.profile.specs.Wire.{read_header, refusal_of, row_at, row_size, read_rows, then_rows};
+ghost use Rattle.profile.specs.Views.{row_of, header_of, read_on, with_next};
+ghost use Rattle.profile.specs.Wire.{read_header, refusal_of, row_at, row_size, read_rows};
 
 use crate::limits::Limits;
 use crate::row::{Header, Row};
 use loads::kind::{Kind, LoadFault};
 use loads::word::split_u32;
+use std::marker::Model;
 use terms::refusal::Refusal;
 
 // The mark, the horizon with the number of rows, and the bytes after them.
@@ -58,45 +60,54 @@ fn split_row<K: Kind>(bytes: &[u8]) -> Result<(Row<K::Load>, &[u8]), Refusal>
     Ok((row, rest))
 }
 
-/// What the next row has to keep to, and the bytes from it on.
+/// What the next row has to keep to, how many rows are left, and the bytes from the next one on.
 #[derive(Drop)]
 pub(crate) struct Walk<'b, K: Kind> {
     limits: Limits<K>,
+    left: u32,
     rest: &'b [u8],
+}
+
+impl<'b, K: Kind> Model for Walk<'b, K> {
+    ghost use Rattle.profile.specs.Views.{Reading};
+
+    ghost Value = { Reading };
+
+    ghost view = { λ a. record { limits = a.limits; left = a.left; rest = a.rest.now } };
 }
 
 impl<'b, K: Kind> Walk<'b, K> {
     /// The header, and the walk that begins with the first row after it.
     pub(crate) fn start(bytes: &'b [u8]) -> Result<(Header, Walk<'b, K>), Refusal>
         ensures header { answered (λ p. header_of p.0) (λ e. e) result ≡ read_header K.Kind.format bytes.now }
-        ensures rows { IfOk result (λ p. (n : ℕ) → read_on K.Kind.format K.Kind.counts p.1.limits p.1.rest.now n ≡ read_rows K.Kind.format p.0.horizon None n (drop 9 bytes.now)) }
+        ensures rows { IfOk result (λ p. read_on K.Kind.format p.1 ≡ read_rows K.Kind.format p.0.horizon None p.0.count (drop 9 bytes.now)) }
     {
         let (mark, header, rest) = split_header(bytes).ok_or(Refusal::ProfileLength)?;
         if mark != K::MARK {
             return Err(Refusal::OtherMark);
         }
         let limits = Limits::new(header.horizon)?;
-        Ok((header, Walk { limits, rest }))
+        let left = header.count;
+        Ok((header, Walk { limits, left, rest }))
     }
 
-    /// The row at the front of the rest, if it keeps to the limits; the walk goes on behind it.
-    pub(crate) fn next_row(&mut self) -> Result<Row<K::Load>, Refusal>
-        ensures { (n : ℕ) → read_on K.Kind.format K.Kind.counts self.old.limits self.old.rest.now (n + 1) ≡ then_rows (answered (row_of K.Kind.counts) (λ e. e) result) (λ _. read_on K.Kind.format K.Kind.counts self.new.limits self.new.rest.now n) }
+    /// The row at the front of the rest, if it keeps to the limits, and the walk goes on behind it; none after the
+    /// last one, where bytes that are left are refused.
+    pub(crate) fn next_row(&mut self) -> Result<Option<Row<K::Load>>, Refusal>
+        ensures rows { read_on K.Kind.format self.old ≡ with_next (answered (option_map (row_of K.Kind.counts)) (λ e. e) result) (read_on K.Kind.format self.new) }
+        ensures fewer { IfOk result (λ row. IfSome row (λ _. self.new.left < self.old.left)) }
     {
+        if self.left == 0 {
+            return if self.rest.is_empty() {
+                Ok(None)
+            } else {
+                Err(Refusal::ProfileLength)
+            };
+        }
         let (row, rest) = split_row::<K>(self.rest)?;
         self.limits.admit(row)?;
+        self.left -= 1;
         self.rest = rest;
-        Ok(row)
-    }
-
-    /// Refuses bytes after the last row.
-    pub(crate) fn finish(&self) -> Result<(), Refusal>
-        ensures { answered (λ _. []) (λ e. e) result ≡ read_on K.Kind.format K.Kind.counts self.now.limits self.now.rest.now 0 }
-    {
-        if self.rest.is_empty() {
-            Ok(())
-        } else {
-            Err(Refusal::ProfileLength)
-        }
+        Ok(Some(row))
     }
 }

@@ -32,16 +32,17 @@ fn check_rows<K: Kind>(horizon: u32, rows: &[Row<K::Load>]) -> Result<(), Refusa
     Ok(())
 }
 
-// The rows one after another, from a place on where there is room for them all.
+// The rows one after another, from a place on; nothing where there is no room for all.
 fn put_rows<K: Kind>(rows: &[Row<K::Load>], start: usize, buffer: &mut [u8]) -> Option<usize>
-    ensures place { start + length rows.now * row_size K.Kind.format ≤ length buffer.old → result ≡ Some (start + length rows.now * row_size K.Kind.format) }
-    ensures after { start + length rows.now * row_size K.Kind.format ≤ length buffer.old → buffer.new ≡ put_at start (flat_map (row_bytes K.Kind.format) (map (row_of K.Kind.counts) rows.now)) buffer.old }
+    ensures place { result ≡ place_after start (length rows.now * row_size K.Kind.format) buffer.old }
+    ensures after { buffer.new ≡ put_at start (flat_map (row_bytes K.Kind.format) (map (row_of K.Kind.counts) rows.now)) buffer.old }
 {
+    let end = rows_end::<K>(start, rows.len(), buffer)?;
     let mut at = start;
     for row in rows {
         at = put_row::<K>(*row, at, buffer)?;
     }
-    Some(at)
+    Some(end)
 }
 
 // The header at the front, and then the rows; nothing where there is no room for all.
@@ -49,9 +50,10 @@ fn put_profile<K: Kind>(header: Header, rows: &[Row<K::Load>], buffer: &mut [u8]
     ensures place { result ≡ place_after 0 (profile_size K.Kind.format (length rows.now)) buffer.old }
     ensures after { buffer.new ≡ put_front (header_bytes K.Kind.format header.horizon header.count ++ flat_map (row_bytes K.Kind.format) (map (row_of K.Kind.counts) rows.now)) buffer.old }
 {
-    rows_end::<K>(HEADER_LEN, rows.len(), buffer)?;
-    let start = put_header::<K>(header, buffer)?;
-    put_rows::<K>(rows, start, buffer)
+    // The rows first: where they have room, the header has it too.
+    let end = put_rows::<K>(rows, HEADER_LEN, buffer)?;
+    put_header::<K>(header, buffer)?;
+    Some(end)
 }
 
 /// Writes the profile of a horizon and rows at the front of the buffer and tells its length; later bytes are kept.

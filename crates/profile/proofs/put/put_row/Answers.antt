@@ -9,4 +9,4 @@ returns-in_err-end-clause-after g c =
 pub returns-clause-after : goal.returns-clause-after
 returns-clause-after g c =
     row_put g.K.Kind.format g.met.K.Kind.lawful (row_of g.K.Kind.counts c.args.row) (g.met.K.Kind.counted c.args.row.load) c.args.at c.args.buffer.now
-    c.in_ok-end.end c.word_pair.result c.put_front.new.buffer c.put.new.buffer c.in_ok-end.ensures c.word_pair.ensures c.put_front.ensures.after c.put.ensures.after
+    c.in_ok-end.end c.put_words.new.buffer c.put.new.buffer c.in_ok-end.ensures c.put_words.ensures.after c.put.ensures.after
