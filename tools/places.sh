@@ -15,7 +15,7 @@ show '1e an error handed on by hand' 'Err\(.*\) => *(Err|\{)|Err\(AllocError\)|o
 show '2a numbers of bytes taken apart and put together' '(from|to)_be_bytes'
 show '2b lengths of images in sums and tests' 'image_len\(\)'
 show '2c a function beside a constant of the same value' '\bkind_mark\b'
-show '3a loops' '^ *(.[a-z]*: )?(while|loop|for) ?.*\{$'
+show '3a loops' '^ *(.[a-z]*: )?(while|loop|for) ?.*\{\}?$'
 show '3b parts of slices by index' '&(mut )?[a-z_.]*\[[^]]*\.\.|[a-z]\[[0-9]\.\.'
 show '4a comparing and converting by hand' 'fn (same|compare|precedes|of|number|kind_of|parts|load_refusal|cover|digit_of|digits_of|is_word)\b'
 show '4b printing by hand' 'fn push_'
