@@ -106,6 +106,7 @@ impl Kind for Crews {
     }
 
     fn read(bytes: &[u8]) -> Result<Self::Load, LoadFault> {
+        // Eight bytes, which this kind alone has; `split_u32` cuts off four.
         let front = bytes.first_chunk().ok_or(Short)?;
         Ok(CrewsLoad::from(u64::from_be_bytes(*front)))
     }

@@ -61,6 +61,7 @@ fn split_row<K: Kind>(bytes: &[u8]) -> Result<(Row<K::Load>, &[u8]), Refusal>
 }
 
 /// What the next row has to keep to, how many rows are left, and the bytes from the next one on.
+// Rows are counted here, by the header's number, so that both readers only ask for the next one.
 #[derive(Drop)]
 pub(crate) struct Walk<'b, K: Kind> {
     limits: Limits<K>,

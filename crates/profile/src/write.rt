@@ -17,6 +17,7 @@ use terms::refusal::Refusal;
 pub fn profile_len<K: Kind>(rows: usize) -> u64
     ensures { result ≡ told (profile_size K.Kind.format rows) }
 {
+    // It saturates, since it is told; `rows_end` refuses what is too long.
     let rows_len = row_len::<K>().saturating_mul(rows as u64);
     rows_len.saturating_add(HEADER_LEN as u64)
 }
@@ -38,6 +39,7 @@ fn put_rows<K: Kind>(rows: &[Row<K::Load>], start: usize, buffer: &mut [u8]) -> 
     ensures after { buffer.new ≡ put_at start (flat_map (row_bytes K.Kind.format) (map (row_of K.Kind.counts) rows.now)) buffer.old }
 {
     let end = rows_end::<K>(start, rows.len(), buffer)?;
+    // The place is carried along: `put_row` says why.
     let mut at = start;
     for row in rows {
         at = put_row::<K>(*row, at, buffer)?;

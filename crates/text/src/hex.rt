@@ -42,6 +42,7 @@ pub fn from_hex(heap: Global, digits: &[u8]) -> Result<Option<Vec<u8>>, AllocErr
     if !odd.is_empty() || !well_formed(pairs) {
         return Ok(None);
     }
+    // A second pass: memory is asked for only where the digits write bytes.
     let mut bytes = Vec::new(heap);
     for pair in pairs {
         bytes.push(pair_value(*pair).unwrap())?;

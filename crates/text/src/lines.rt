@@ -38,6 +38,7 @@ pub fn word(bytes: &[u8]) -> (&[u8], Option<&[u8]>)
 }
 
 /// The lines of bytes, one after another.
+// `split_inclusive` tells one part at a time, with its line feed; this says at once which lines there are.
 #[derive(Drop)]
 pub struct Lines<'a> {
     rest: &'a [u8],

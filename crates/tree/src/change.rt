@@ -21,6 +21,7 @@ pub(crate) struct Taken<E> {
 }
 
 // Most of these call themselves on subtrees, so their clauses tell what stands at a link, and not the value of a tree.
+// `insert`, `take` and `renew` go down alike, but each does something else at the key and hands something else back.
 impl<E: Entry> Nodes<'_, E> {
     // Puts an entry whose key is not there into the tree at `root`, in a free slot, and returns the new root.
     pub(crate) fn insert(&mut self, root: Option<usize>, slot: usize, entry: E) -> usize
