@@ -33,7 +33,7 @@ pub trait Kind {
     /// The kind's own form of load; two loads are equal when all their counts are.
     type Load: Copy + Eq;
 
-    /// The byte with which the kind's profiles begin, 1 to 127.
+    /// The byte with which the kind's profiles begin, 1 to 127; a number, since the format writes it.
     const MARK: u8;
 
     ghost MARK: { ℕ };

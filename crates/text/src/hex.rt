@@ -62,7 +62,7 @@ fn digit_of(value: u8) -> u8
     }
 }
 
-// The two digits of a byte.
+// The two digits of a byte, as `digit_of` writes them.
 fn digits_of(byte: u8) -> [u8; 2]
     ensures { result ≡ hex_text (byte ∷ []) }
 {

@@ -156,7 +156,7 @@ impl<E: Entry> Nodes<'_, E> {
         }
     }
 
-    // Moves the entry at the slot `last`, the last that is in use, to the free slot before it, and returns the new root.
+    // Moves the entry at the slot `last`, the last that is in use, to the free slot before it, and tells the new root.
     pub(crate) fn fill(&mut self, root: Option<usize>, slot: usize, last: usize) -> Option<usize>
         requires { let O = order_by E.key E.Key.cmp in (t : Shape E) × Sound E.sums O self.old.table.now root t × Gap self.old.table.now slot last t }
         ensures { let O = order_by E.key E.Key.cmp in (t : Shape E) → Sound E.sums O self.old.table.now root t → Gap self.old.table.now slot last t → (u : Shape E) × Filled E.sums O self.old.table.now last t self.new.table.now result u }
