@@ -17,12 +17,6 @@ put_long xs buffer n e h = cond-true _ _ _ (le-leb (length xs) (length buffer) (
 pub put_short : (xs buffer : List ℕ) → length buffer < length xs → buffer ≡ put_front xs buffer
 put_short xs buffer h = sym (cond-false _ _ _ (lt-leb (length xs) (length buffer) h))
 
-pub length_put : (xs buffer front : List ℕ) → front ≡ put_front xs buffer → length front ≡ length buffer
-length_put xs buffer front e = elim (cases_lt (length buffer) (length xs)) [
-  | inl h ↦ ap length (e ∙ sym (put_short xs buffer h))
-  | inr h ↦ ap length (e ∙ put_long xs buffer (length xs) refl h) ∙ length-append xs (drop (length xs) buffer) ∙ (rw length-drop (omega arith))
-]
-
 -- an image of all of one part, and one at the front of the next, as both at the front of the whole
 pub put_parts : (xs ys front back : List ℕ) → length xs ≡ length front → length ys ≤ length back → put_front xs front ++ put_front ys back ≡ put_front (xs ++ ys) (front ++ back)
 put_parts xs ys front back p q =

@@ -84,11 +84,6 @@ all_right P [] ys h = h
 all_right P (x ∷ xs) ys h = all_right P xs ys h.1
 
 -- ---- comparisons
-lt_less : (r : Ordering) → is_lt r ≡ true → r ≡ Less
-lt_less Less h = refl
-lt_less Equal h = cc
-lt_less Greater h = cc
-
 same_of : (r : Ordering) → side_of r ≡ None → r ≡ Equal
 same_of Less h = cc
 same_of Equal h = refl
