@@ -25,8 +25,8 @@ pub(crate) struct Taken<E> {
 impl<E: Entry> Nodes<'_, E> {
     // Puts an entry whose key is not there into the tree at `root`, in a free slot, and returns the new root.
     pub(crate) fn insert(&mut self, root: Option<usize>, slot: usize, entry: E) -> usize
-        requires { let O = order_by E.key E.Key.cmp in (t : Shape E) × Sound E.sums O self.old.table.now root t × Free O self.old.table.now slot entry t }
-        ensures { let O = order_by E.key E.Key.cmp in (t : Shape E) → Sound E.sums O self.old.table.now root t → Free O self.old.table.now slot entry t → (u : Shape E) × Changed E.sums self.old.table.now t self.new.table.now (Some result) u × (row u ≡ placed (by_entry O) (slot, entry) (row t)) }
+        requires { let O = order_by E.key E.compare in (t : Shape E) × Sound E.sums O self.old.table.now root t × Free O self.old.table.now slot entry t }
+        ensures { let O = order_by E.key E.compare in (t : Shape E) → Sound E.sums O self.old.table.now root t → Free O self.old.table.now slot entry t → (u : Shape E) × Changed E.sums self.old.table.now t self.new.table.now (Some result) u × (row u ≡ placed (by_entry O) (slot, entry) (row t)) }
     {
         let Some(at) = root else {
             self.put(Fork {
@@ -101,8 +101,8 @@ impl<E: Entry> Nodes<'_, E> {
 
     // Takes the entry of a key out of a tree that has it.
     pub(crate) fn take(&mut self, root: Option<usize>, key: E::Key) -> Taken<E>
-        requires { let O = order_by E.key E.Key.cmp in (t : Shape E) × (p : ℕ × E) × Sound E.sums O self.old.table.now root t × (find (at_key (by_entry O) key) (row t) ≡ Some p) }
-        ensures { let O = order_by E.key E.Key.cmp in (t : Shape E) (p : ℕ × E) → Sound E.sums O self.old.table.now root t → find (at_key (by_entry O) key) (row t) ≡ Some p → (u : Shape E) × Changed E.sums self.old.table.now t self.new.table.now result.root u × (row u ≡ without (at_key (by_entry O) key) (row t)) × (p ≡ (result.slot, result.entry)) }
+        requires { let O = order_by E.key E.compare in (t : Shape E) × (p : ℕ × E) × Sound E.sums O self.old.table.now root t × (find (at_key (by_entry O) key) (row t) ≡ Some p) }
+        ensures { let O = order_by E.key E.compare in (t : Shape E) (p : ℕ × E) → Sound E.sums O self.old.table.now root t → find (at_key (by_entry O) key) (row t) ≡ Some p → (u : Shape E) × Changed E.sums self.old.table.now t self.new.table.now result.root u × (row u ≡ without (at_key (by_entry O) key) (row t)) × (p ≡ (result.slot, result.entry)) }
     {
         let Some(at) = root else { unreachable!() };
         let n = self.node(at);
@@ -130,8 +130,8 @@ impl<E: Entry> Nodes<'_, E> {
     // Writes an entry in place of the one with its key, which there is, in that one's slot or in the free one that is
     // given, and returns the new root.
     pub(crate) fn renew(&mut self, root: Option<usize>, to: Option<usize>, entry: E) -> usize
-        requires { let O = order_by E.key E.Key.cmp in (t : Shape E) × (p : ℕ × E) × Sound E.sums O self.old.table.now root t × Vacant O self.old.table.now to entry p t }
-        ensures { let O = order_by E.key E.Key.cmp in (t : Shape E) (p : ℕ × E) → Sound E.sums O self.old.table.now root t → Vacant O self.old.table.now to entry p t → (u : Shape E) × Changed E.sums self.old.table.now t self.new.table.now (Some result) u × (row u ≡ reseated O to entry (row t)) }
+        requires { let O = order_by E.key E.compare in (t : Shape E) × (p : ℕ × E) × Sound E.sums O self.old.table.now root t × Vacant O self.old.table.now to entry p t }
+        ensures { let O = order_by E.key E.compare in (t : Shape E) (p : ℕ × E) → Sound E.sums O self.old.table.now root t → Vacant O self.old.table.now to entry p t → (u : Shape E) × Changed E.sums self.old.table.now t self.new.table.now (Some result) u × (row u ≡ reseated O to entry (row t)) }
     {
         let Some(at) = root else { unreachable!() };
         let n = self.node(at);
@@ -158,8 +158,8 @@ impl<E: Entry> Nodes<'_, E> {
 
     // Moves the entry at the slot `last`, the last that is in use, to the free slot before it, and tells the new root.
     pub(crate) fn fill(&mut self, root: Option<usize>, slot: usize, last: usize) -> Option<usize>
-        requires { let O = order_by E.key E.Key.cmp in (t : Shape E) × Sound E.sums O self.old.table.now root t × Gap self.old.table.now slot last t }
-        ensures { let O = order_by E.key E.Key.cmp in (t : Shape E) → Sound E.sums O self.old.table.now root t → Gap self.old.table.now slot last t → (u : Shape E) × Filled E.sums O self.old.table.now last t self.new.table.now result u }
+        requires { let O = order_by E.key E.compare in (t : Shape E) × Sound E.sums O self.old.table.now root t × Gap self.old.table.now slot last t }
+        ensures { let O = order_by E.key E.compare in (t : Shape E) → Sound E.sums O self.old.table.now root t → Gap self.old.table.now slot last t → (u : Shape E) × Filled E.sums O self.old.table.now last t self.new.table.now result u }
     {
         if slot < last {
             let moved = self.node(last);

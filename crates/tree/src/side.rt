@@ -35,9 +35,9 @@ impl Side {
 
 // The side of an entry on which a key belongs, and none where it is the entry's own.
 pub(crate) fn side_of<E: Entry>(key: E::Key, entry: E) -> Option<Side>
-    ensures { result ≡ side_of (E.Key.cmp key (E.key entry)) }
+    ensures { result ≡ side_of (E.compare key (E.key entry)) }
 {
-    match key.cmp(&entry.key()) {
+    match E::compare(key, entry.key()) {
         Ordering::Less => Some(Side::Left),
         Ordering::Equal => None,
         Ordering::Greater => Some(Side::Right),

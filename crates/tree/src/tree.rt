@@ -23,7 +23,7 @@ impl<'t, E: Entry> Model for Tree<'t, E> {
 
     ghost view = { λ a. record { entries = entries_at a.nodes.table.now a.root; places = length a.nodes.table.now } };
 
-    ghost invariant = { λ a. SoundTree E.sums (order_by E.key E.Key.cmp) a.nodes.table.now a.root a.count };
+    ghost invariant = { λ a. SoundTree E.sums (order_by E.key E.compare) a.nodes.table.now a.root a.count };
 }
 
 impl<'t, E: Entry> Tree<'t, E> {

@@ -7,24 +7,24 @@ use Rattle.tree.proofs.nodes.Nodes.+take.Goals as goal
 
 pub take-out-requires : goal.take-out-requires
 take-out-requires g t c κs within =
-    let w = way (order_by g.E.Entry.key g.E.Key.Ord.cmp) g.met.E.Key.Ord.total c.requires.2.fit c.in-Some.is c.node-n.result c.node-n.ensures c.args.key c.in-Some-side_of.side (cc) c.fork-top.ensures in
-    let d = take_down g.met.E.Key.Ord.total c.args.key c.requires.2 c.requires.3 w.parts w.goes in
+    let w = way (order_by g.E.Entry.key g.E.Entry.compare) g.met.E.Entry.total c.requires.2.fit c.in-Some.is c.node-n.result c.node-n.ensures c.args.key c.in-Some-side_of.side (cc) c.fork-top.ensures in
+    let d = take_down g.met.E.Entry.total c.args.key c.requires.2 c.requires.3 w.parts w.goes in
     (omega (arith, c.decreases, d.0), (within.0, (within.1.0, (within.1.1, d.1))))
 
 pub balance-top-requires : goal.balance-top-requires
 balance-top-requires g t c =
-    let w = way (order_by g.E.Entry.key g.E.Key.Ord.cmp) g.met.E.Key.Ord.total c.requires.2.fit c.in-Some.is c.node-n.result c.node-n.ensures c.args.key c.in-Some-side_of.side (cc) c.fork-top.ensures in
-    take_ready g.met.E.Key.Ord.total c.args.key c.requires.2 c.requires.3 w.parts w.goes c.take-out.ensures
+    let w = way (order_by g.E.Entry.key g.E.Entry.compare) g.met.E.Entry.total c.requires.2.fit c.in-Some.is c.node-n.result c.node-n.ensures c.args.key c.in-Some-side_of.side (cc) c.fork-top.ensures in
+    take_ready g.met.E.Entry.total c.args.key c.requires.2 c.requires.3 w.parts w.goes c.take-out.ensures
 
 pub returns-in-Some-side_of : goal.returns-in-Some-side_of
 returns-in-Some-side_of g t c x p S here =
-    let w = way (order_by g.E.Entry.key g.E.Key.Ord.cmp) g.met.E.Key.Ord.total S.fit c.in-Some.is c.node-n.result c.node-n.ensures c.args.key c.in-Some-side_of.side (cc) c.fork-top.ensures in
-    take_back g.met.E.Key.Ord.total c.args.key S here w.parts w.goes c.take-out.ensures c.balance-top.ensures
+    let w = way (order_by g.E.Entry.key g.E.Entry.compare) g.met.E.Entry.total S.fit c.in-Some.is c.node-n.result c.node-n.ensures c.args.key c.in-Some-side_of.side (cc) c.fork-top.ensures in
+    take_back g.met.E.Entry.total c.args.key S here w.parts w.goes c.take-out.ensures c.balance-top.ensures
 
 pub glue-requires : goal.glue-requires
 glue-requires g t c =
-    take_pair g.met.E.Key.Ord.total c.args.key c.requires.2 c.requires.3 c.node-n.result (opens c.requires.2.fit c.in-Some.is c.node-n.result c.node-n.ensures Left refl)
+    take_pair g.met.E.Entry.total c.args.key c.requires.2 c.requires.3 c.node-n.result (opens c.requires.2.fit c.in-Some.is c.node-n.result c.node-n.ensures Left refl)
 
 pub returns-in-None : goal.returns-in-None
 returns-in-None g t c x p S here =
-    take_here g.met.E.Key.Ord.total c.args.key S here c.node-n.result (opens S.fit c.in-Some.is c.node-n.result c.node-n.ensures Left refl) (cc) c.glue.ensures
+    take_here g.met.E.Entry.total c.args.key S here c.node-n.result (opens S.fit c.in-Some.is c.node-n.result c.node-n.ensures Left refl) (cc) c.glue.ensures
