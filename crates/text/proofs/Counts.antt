@@ -124,13 +124,22 @@ module _ {X : Type 0} (f : X → List ℕ) where
       let like = Any-dedup (on_texts_equal f) sorted x h in
       ap (λ z. among z (map f kept)) (same_is (f x) (f like.1) like.4) ∙ among_at kept like.1 (like.0, like.2, like.3)
 
+  shuffled_le : (xs ys : List X) → IsPermutation xs ys → distinct_of (map f ys) ≤ distinct_of (map f xs)
+  shuffled_le xs ys s = within_le ys xs (λ y h. among_at xs y (Contains-permutation ys xs y (IsPermutation-sym xs ys s) h))
+
+  pub distinct_shuffled : (xs ys : List X) → IsPermutation xs ys → distinct_of (map f ys) ≡ distinct_of (map f xs)
+  distinct_shuffled xs ys s =
+      let below = shuffled_le xs ys s in
+      let above = shuffled_le ys xs (IsPermutation-sym xs ys s) in
+      omega arith
+
   -- sorted, and without equal neighbours, a list has as many items as differ
-  pub count_kept : (xs sorted kept : List X) → IsPermutation xs sorted → IsSorted (on f (slice_cmp nat_cmp)) sorted → IsFiltered (DiffersFromLast (on f bytes_eq)) [] sorted kept
-      → length kept ≡ distinct_of (map f xs)
-  count_kept xs sorted kept moved up filtered =
+  pub count_kept : (sorted kept : List X) → IsSorted (on f (slice_cmp nat_cmp)) sorted → IsFiltered (DiffersFromLast (on f bytes_eq)) [] sorted kept
+      → length kept ≡ distinct_of (map f sorted)
+  count_kept sorted kept up filtered =
       let stays = dedup (on f bytes_eq) sorted in
       let all : distinct_of (map f stays) ≡ length stays = climbs_all stays (IsStrictlySortedBy-dedup (on_texts f) (λ x y. texts_ties (f x) (f y)) sorted up) in
-      let below = within_le stays xs (λ x h. among_at xs x (Contains-permutation sorted xs x (IsPermutation-sym xs sorted moved) (Contains-from_dedup (on f bytes_eq) sorted x h))) in
-      let above = within_le xs stays (λ x h. like_kept sorted x (Contains-permutation xs sorted x moved h)) in
+      let below = within_le stays sorted (λ x h. among_at sorted x (Contains-from_dedup (on f bytes_eq) sorted x h)) in
+      let above = within_le sorted stays (like_kept sorted) in
       let is = ap length (dedup_is (on f bytes_eq) sorted kept filtered) in
       omega arith

@@ -1,12 +1,25 @@
 // How many different items a list has.
 ghost use Rattle.std.specs.Prelude.{◌≡◌, map, vec_items};
+ghost use Rattle.std.specs.List.Sorted.{IsPermutation, IsSorted};
 ghost use Rattle.text.specs.Distinct.{distinct_of};
 
+use std::collections::BinaryHeap;
+
+// The same items in order, equal ones together. By a heap, since the library's sorts of slices recurse.
+fn sorted(items: Vec<Vec<u8>>) -> Vec<Vec<u8>>
+    ensures permutation { IsPermutation items.items result.items }
+    ensures sorted { IsSorted ⟦<Vec<u8> as Ord>⟧.cmp result.items }
+    ensures count { distinct_of (map vec_items result.items) ≡ distinct_of (map vec_items items.items) }
+{
+    BinaryHeap::from(items).into_sorted_vec()
+}
+
 /// How many different items there are.
-pub fn distinct(mut items: Vec<Vec<u8>>) -> usize
+#[tactic(auto, using(crate::proofs::Counts::count_kept))]
+pub fn distinct(items: Vec<Vec<u8>>) -> usize
     ensures { result ≡ distinct_of (map vec_items items.items) }
 {
-    items.sort_unstable();
-    items.dedup();
-    items.len()
+    let mut together = sorted(items);
+    together.dedup();
+    together.len()
 }
