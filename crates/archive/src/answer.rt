@@ -11,7 +11,7 @@ ghost use Rattle.archive.specs.declared.rejection.Rejection.TheVariants.{Refused
 
 use crate::kind_name::KindName;
 use crate::line::{Filing, read_line};
-use crate::print::{push_line, push_profile};
+use crate::print::{push_bad, push_profile, push_refused};
 use crate::rejection::Rejection;
 use loads::airtime::Airtime;
 use loads::crews::Crews;
@@ -35,9 +35,8 @@ fn answer_as<K: Kind>(out: &mut Vec<u8>, bytes: &[u8]) -> Result<Result<(), Reje
             Ok(Ok(()))
         }
         Err(ReadError::Refused(refusal)) => {
-            let rejection = Rejection::Refused(refusal);
-            push_line(out, rejection)?;
-            Ok(Err(rejection))
+            push_refused(out, refusal)?;
+            Ok(Err(Rejection::Refused(refusal)))
         }
         // Want of memory is no answer to the line, so it leaves by the outer error.
         Err(ReadError::OutOfMemory) => Err(AllocError),
@@ -77,7 +76,7 @@ pub fn answer(out: &mut Vec<u8>, line: &[u8]) -> Result<Verdict, AllocError>
     match read_line(*out.allocator(), line)? {
         Some(filing) => answer_filing(out, filing),
         None => {
-            push_line(out, Rejection::BadLine)?;
+            push_bad(out)?;
             Ok(Err(Rejection::BadLine))
         }
     }

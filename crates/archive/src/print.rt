@@ -2,21 +2,44 @@
 ghost use Rattle.std.specs.Prelude.{◌≡◌, ◌++◌, map, IfSome, OnOk};
 ghost use Rattle.std.specs.List.{flat_map};
 ghost use Rattle.profile.specs.Views.{row_of, profile_of};
-ghost use Rattle.archive.specs.Texts.{feed, row_text, accepted_text};
+ghost use Rattle.archive.specs.Texts.{feed, row_text, accepted_text, bad_text, refused_text};
 
+use crate::rejection::{BAD_LINE, REFUSED};
 use loads::kind::Kind;
 use profile::row::{Profile, Row};
 use std::alloc::AllocError;
 use std::fmt::Display;
+use terms::refusal::Refusal;
 use text::decimal::push_decimal;
 use text::hex::push_hex;
 
-/// Adds a line with the text of a value, as `writeln!` does, but fails for want of memory alone.
+/// Adds a line with the text of a value, as `writeln!` does, but fails for want of memory alone. It makes that text on
+/// the heap, so it is for the totals, which are one line a run.
 pub(crate) fn push_line<D: Display + Drop>(out: &mut Vec<u8>, value: D) -> Result<(), AllocError>
     ensures { OnOk result (IfSome (D.output value) (λ bs. out.new.items ≡ out.old.items ++ (bs ++ feed))) }
 {
     let line = format!(in *out.allocator(); "{value}\n")?;
     out.extend_from_slice(line.as_bytes())
+}
+
+// The answer to a line is pushed in pieces, here and in `push_profile`: with a text made for each, the program took
+// 1.2 s in place of 0.26 s on 32,000,000 empty lines.
+
+/// Adds the line of `Rejection::BadLine`.
+pub(crate) fn push_bad(out: &mut Vec<u8>) -> Result<(), AllocError>
+    ensures { OnOk result (out.new.items ≡ out.old.items ++ bad_text) }
+{
+    out.extend_from_slice(BAD_LINE.as_bytes())?;
+    out.extend_from_slice(b"\n")
+}
+
+/// Adds the line of `Rejection::Refused`.
+pub(crate) fn push_refused(out: &mut Vec<u8>, refusal: Refusal) -> Result<(), AllocError>
+    ensures { OnOk result (out.new.items ≡ out.old.items ++ refused_text refusal) }
+{
+    out.extend_from_slice(REFUSED.as_bytes())?;
+    push_decimal(out, u64::from(refusal.number()))?;
+    out.extend_from_slice(b"\n")
 }
 
 // Adds a row, its load given as the image. It is pushed in pieces, since a text made for each row would take half as
@@ -53,8 +76,10 @@ pub(crate) fn push_profile<K: Kind>(
 ) -> Result<(), AllocError>
     ensures { OnOk result (out.new.items ≡ out.old.items ++ accepted_text K.Kind.format (profile_of K.Kind.counts profile.now.horizon profile.now.rows.items)) }
 {
-    let horizon = profile.horizon;
-    let count = profile.rows.len();
-    push_line(out, format_args!("ok {horizon} {count}"))?;
+    out.extend_from_slice(b"ok ")?;
+    push_decimal(out, u64::from(profile.horizon))?;
+    out.extend_from_slice(b" ")?;
+    push_decimal(out, profile.rows.len() as u64)?;
+    out.extend_from_slice(b"\n")?;
     push_rows::<K>(out, profile.rows.as_slice())
 }

@@ -6,6 +6,11 @@ use std::error::Error;
 use std::fmt;
 use terms::refusal::Refusal;
 
+pub(crate) const BAD_LINE: &str = "bad line";
+
+/// What stands before the number of the refusal.
+pub(crate) const REFUSED: &str = "refused ";
+
 /// The line is not of the form, or its bytes were refused.
 #[derive(Clone, Copy, PartialEq, Eq, Debug)]
 pub enum Rejection {
@@ -18,10 +23,10 @@ impl fmt::Display for Rejection {
 
     fn fmt<W: fmt::Write>(&self, f: &mut fmt::Formatter<W>) -> fmt::Result {
         match self {
-            Rejection::BadLine => write!(f, "bad line"),
+            Rejection::BadLine => write!(f, "{BAD_LINE}"),
             Rejection::Refused(refusal) => {
                 let number = refusal.number();
-                write!(f, "refused {number}")
+                write!(f, "{REFUSED}{number}")
             }
         }
     }
