@@ -133,13 +133,18 @@ module _ {X : Type 0} (f : X → List ℕ) where
       let above = shuffled_le ys xs (IsPermutation-sym xs ys s) in
       omega arith
 
-  -- sorted, and without equal neighbours, a list has as many items as differ
-  pub count_kept : (sorted kept : List X) → IsSorted (on f (slice_cmp nat_cmp)) sorted → IsFiltered (DiffersFromLast (on f bytes_eq)) [] sorted kept
+  -- without equal neighbours, a sorted list has as many items as differ
+  pub kept_differ : (sorted kept : List X) → IsSorted (on f (slice_cmp nat_cmp)) sorted → IsFiltered (DiffersFromLast (on f bytes_eq)) [] sorted kept
       → length kept ≡ distinct_of (map f sorted)
-  count_kept sorted kept up filtered =
+  kept_differ sorted kept up filtered =
       let stays = dedup (on f bytes_eq) sorted in
       let all : distinct_of (map f stays) ≡ length stays = climbs_all stays (IsStrictlySortedBy-dedup (on_texts f) (λ x y. texts_ties (f x) (f y)) sorted up) in
       let below = within_le stays sorted (λ x h. among_at sorted x (Contains-from_dedup (on f bytes_eq) sorted x h)) in
       let above = within_le sorted stays (like_kept sorted) in
       let is = ap length (dedup_is (on f bytes_eq) sorted kept filtered) in
       omega arith
+
+  -- sorted, and without equal neighbours, a list has as many items as differ
+  pub count_kept : (xs sorted kept : List X) → IsPermutation xs sorted → IsSorted (on f (slice_cmp nat_cmp)) sorted → IsFiltered (DiffersFromLast (on f bytes_eq)) [] sorted kept
+      → length kept ≡ distinct_of (map f xs)
+  count_kept xs sorted kept moved up filtered = kept_differ sorted kept up filtered ∙ distinct_shuffled xs sorted moved

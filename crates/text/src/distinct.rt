@@ -15,7 +15,7 @@ fn sorted(items: Vec<Vec<u8>>) -> Vec<Vec<u8>>
 }
 
 /// How many different items there are.
-#[tactic(auto, using(crate::proofs::Counts::count_kept))]
+#[tactic(auto, using(crate::proofs::Counts::kept_differ))]
 pub fn distinct(items: Vec<Vec<u8>>) -> usize
     ensures { result ≡ distinct_of (map vec_items items.items) }
 {
