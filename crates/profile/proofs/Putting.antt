@@ -1,7 +1,6 @@
 -- Bytes put into a buffer part by part, and at a place.
-use Rattle.std.proofs.Common.{◌≡◌, ℕ, suc, ◌+◌, ◌-◌, ◌<◌, ◌≤◌, List, [], ◌∷◌, ◌++◌, length, take, drop, sym, refl, ap, ◌∙◌, ap₂, inl, inr, arith, length-append, length-drop, length-take}
-use borrow.Rule.Slice.PartMut.{put_mid}
-use Rattle.std.proofs.lemmas.List.{take_rest, drop-drop, drop_all, append-nil, append_assoc, take-append-drop, take_at, drop_at}
+use Rattle.std.proofs.Common.{◌≡◌, ℕ, suc, ◌+◌, ◌<◌, ◌≤◌, List, ◌∷◌, ◌++◌, length, take, drop, sym, refl, ap, ◌∙◌, ap₂, inl, inr, arith, length-append, length-drop, length-take}
+use Rattle.std.proofs.lemmas.List.{drop-drop, append_assoc, take_at, drop_at}
 use Rattle.std.proofs.lemmas.Bool.{cases_lt, le-leb, lt-leb, cond-true, cond-false}
 use Rattle.loads.specs.Digits.{to_bytes}
 use Rattle.loads.specs.Formats.{put_front}
@@ -16,22 +15,17 @@ module _ (at : ℕ) (bs buffer : List ℕ) where
   pub put_at_short : length buffer < at + length bs → put_at at bs buffer ≡ buffer
   put_at_short h = cond-false _ _ _ (lt-leb (at + length bs) (length buffer) h)
 
-  -- put at the front of what begins at the place
-  pub put_at_is : (part : List ℕ) → at ≤ length buffer → part ≡ put_front bs (take (length buffer - at) (drop at buffer))
-      → put_mid at (length buffer - at) buffer part ≡ put_at at bs buffer
-  put_at_is part l e =
-      let z : drop (length buffer - at) (drop at buffer) ≡ [] = drop_all (length buffer - at) (drop at buffer) (rw length-drop (omega arith)) in
-      let r = take_rest buffer at in
-      elim (cases_lt (length buffer) (at + length bs)) [
-        | inl h ↦
-            let p : part ≡ drop at buffer = e ∙ (ap (put_front bs) r ∙ sym (put_short bs (drop at buffer) (rw length-drop (omega arith)))) in
-            let goal : take at buffer ++ (drop at buffer ++ []) ≡ put_at at bs buffer = rw append-nil (take-append-drop at buffer ∙ sym (put_at_short h)) in
-            rw (z, p) goal
+  -- put at the front of what stands behind the place
+  pub put_behind : (front rest : List ℕ) → buffer ≡ front ++ rest → length front ≡ at → front ++ put_front bs rest ≡ put_at at bs buffer
+  put_behind front rest e n =
+      let l : length buffer ≡ at + length rest = ap length e ∙ (length-append front rest ∙ omega arith) in
+      elim (cases_lt (length rest) (length bs)) [
+        | inl h ↦ ap (λ r. front ++ r) (sym (put_short bs rest h)) ∙ (sym e ∙ sym (put_at_short (omega arith)))
         | inr h ↦
-            let p : part ≡ bs ++ drop (length bs) (drop at buffer) = e ∙ (ap (put_front bs) r ∙ put_long bs (drop at buffer) (length bs) refl (rw length-drop (omega arith))) in
-            let goal : take at buffer ++ ((bs ++ drop (length bs) (drop at buffer)) ++ []) ≡ put_at at bs buffer
-            = rw (append-nil, drop-drop) (sym (put_at_long h)) in
-            rw (z, p) goal
+            let t : take at buffer ≡ front = ap (take at) e ∙ take_at front rest at n in
+            let d : drop (at + length bs) buffer ≡ drop (length bs) rest
+            = sym (drop-drop (length bs) at buffer) ∙ ap (λ r. drop (length bs) r) (ap (drop at) e ∙ drop_at front rest at n) in
+            ap (λ r. front ++ r) (put_long bs rest (length bs) refl h) ∙ (sym (ap₂ (λ p q. p ++ (bs ++ q)) t d) ∙ sym (put_at_long (omega arith)))
       ]
 
 -- ---- one after another

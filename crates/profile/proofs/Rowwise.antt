@@ -1,18 +1,17 @@
 -- Rows checked and written one by one, and the room that they want.
-use Rattle.std.proofs.Common.{◌≡◌, ℕ, ◌+◌, ◌-◌, ◌*◌, ◌<◌, ◌≤◌, leb, List, [], ◌∷◌, ◌++◌, map, length, get_or, take, drop, Some, None, Option, sym, ap, ◌∙◌, ap₂, inl, inr, mul-le-mul_right, add-mul, arith, length-append, length-drop, length-take}
+use Rattle.std.proofs.Common.{◌≡◌, ℕ, ◌+◌, ◌*◌, ◌<◌, ◌≤◌, leb, List, [], ◌∷◌, ◌++◌, map, length, get_or, take, drop, Some, None, Option, sym, ap, ◌∙◌, ap₂, inl, inr, mul-le-mul_right, add-mul, arith, length-append, length-drop, length-take}
 use lib.ListN.{length-map}
 use Rattle.std.specs.List.{flat_map, AllByRecursion}
-use Rattle.std.proofs.lemmas.List.{flat_map_more, map_more}
+use Rattle.std.proofs.lemmas.List.{flat_map_more, map_more, drop-drop, append_assoc}
 use Rattle.std.proofs.lemmas.Option.{cond_some, none-some}
 use Rattle.std.proofs.lemmas.Bool.{cases_lt, leb-true, le-leb, cond-true}
-use borrow.Rule.Slice.PartMut.{put_mid}
 use Rattle.loads.specs.Digits.{to_bytes}
 use Rattle.loads.specs.Formats.{Format, Counted, Lawful, put_front}
-use Rattle.loads.specs.Places.{length_to_bytes}
+use Rattle.loads.proofs.Fronts.{put_long, put_short}
 use Rattle.profile.specs.Rows.{Row, end_before, rows_fault}
 use Rattle.profile.specs.Wire.{row_bytes, row_size, put_at, place_after}
 use Rattle.profile.proofs.Once.{cut}
-use Rattle.profile.proofs.Putting.{put_at_long, put_at_short, put_at_is, put_more}
+use Rattle.profile.proofs.Putting.{put_at_long, put_behind, put_more}
 use Rattle.profile.proofs.Written.{length_rows, length_row}
 
 -- ---- faults
@@ -48,26 +47,28 @@ length_put_at at bs buffer h =
 
 -- ---- one row into a buffer
 
-module _ (f : Format) (lawful : Lawful f) (r : Row) (counted : Counted f r.load) (at : ℕ) (buffer : List ℕ) where
-  pub row_kept : None ≡ place_after at (1 * row_size f) buffer → buffer ≡ put_at at (row_bytes f r) buffer
-  row_kept e =
-      let short = place_none at (1 * row_size f) buffer e in
-      sym (put_at_short at (row_bytes f r) buffer (omega (arith, length_row f lawful r counted)))
+module _ (f : Format) (lawful : Lawful f) (r : Row) (counted : Counted f r.load) (at : ℕ) (buffer front rest : List ℕ) (cut : buffer ≡ front ++ rest) (place : length front ≡ at) where
+  pub row_kept : (parts : List ℕ) → parts ≡ rest → length rest < row_size f → front ++ parts ≡ put_at at (row_bytes f r) buffer
+  row_kept parts e h =
+      let n = length_row f lawful r counted in
+      ap (λ bs. front ++ bs) (e ∙ put_short (row_bytes f r) rest (omega arith)) ∙ put_behind at (row_bytes f r) buffer front rest cut place
 
-  -- offset and length, and then the image after them
-  pub row_put : (end : ℕ) (front rest : List ℕ) → Some end ≡ place_after at (1 * row_size f) buffer
-      → front ≡ put_front (to_bytes 4 r.offset ++ to_bytes 4 r.minutes) (take (length buffer - at) (drop at buffer))
-      → rest ≡ put_front (f.image r.load) (take (length (put_mid at (length buffer - at) buffer front) - (at + 8)) (drop (at + 8) (put_mid at (length buffer - at) buffer front)))
-      → put_mid (at + 8) (length (put_mid at (length buffer - at) buffer front) - (at + 8)) (put_mid at (length buffer - at) buffer front) rest ≡ put_at at (row_bytes f r) buffer
-  row_put end front rest e a b =
+  -- offset and length, and the image at the front of what follows them
+  pub row_put : (offset minutes image load : List ℕ) → offset ≡ to_bytes 4 r.offset → minutes ≡ to_bytes 4 r.minutes → image ≡ drop 8 rest → row_size f ≤ length rest
+      → load ≡ put_front (f.image r.load) image → front ++ (offset ++ (minutes ++ load)) ≡ put_at at (row_bytes f r) buffer
+  row_put offset minutes image load a b i h l =
       let words = to_bytes 4 r.offset ++ to_bytes 4 r.minutes in
-      let one = put_mid at (length buffer - at) buffer front in
-      let l : length words ≡ 8 = length-append (to_bytes 4 r.offset) (to_bytes 4 r.minutes) ∙ ap₂ ◌+◌ (length_to_bytes 4 r.offset) (length_to_bytes 4 r.minutes) in
-      let i = lawful.sized r.load counted in
-      let fits = (place_some end at (1 * row_size f) buffer e).1 in
-      let first : one ≡ put_at at words buffer = put_at_is at words buffer front (omega arith) a in
-      let same : length one ≡ length buffer = ap length first ∙ length_put_at at words buffer (omega arith) in
-      put_more at words (f.image r.load) buffer one _ (at + 8) first (omega arith) (omega arith) (put_at_is (at + 8) (f.image r.load) one rest (omega arith) b)
+      let n = length_row f lawful r counted in
+      let size = lawful.sized r.load counted in
+      let long : f.size ≤ length image = rw (i, length-drop) (omega arith) in
+      let after : load ≡ f.image r.load ++ drop (row_size f) rest
+      = l ∙ (put_long (f.image r.load) image f.size size long ∙ ap (λ bs. f.image r.load ++ bs) (ap (drop f.size) i ∙ drop-drop f.size 8 rest)) in
+      let row : offset ++ (minutes ++ load) ≡ put_front (row_bytes f r) rest
+      = ap₂ (λ p q. p ++ (q ++ load)) a b
+      ∙ (sym (append_assoc (to_bytes 4 r.offset) (to_bytes 4 r.minutes) load)
+      ∙ (ap (λ bs. words ++ bs) after
+      ∙ (sym (append_assoc words (f.image r.load) (drop (row_size f) rest)) ∙ sym (put_long (row_bytes f r) rest (row_size f) n h)))) in
+      ap (λ bs. front ++ bs) row ∙ put_behind at (row_bytes f r) buffer front rest cut place
 
 -- ---- rows into a buffer
 

@@ -59,8 +59,12 @@ pub fn put_row<K: Kind>(row: Row<K::Load>, at: usize, buffer: &mut [u8]) -> Opti
     ensures place { result ≡ place_after at (row_size K.Kind.format) buffer.old }
     ensures after { buffer.new ≡ put_at at (row_bytes K.Kind.format (row_of K.Kind.counts row)) buffer.old }
 {
-    let end = rows_end::<K>(at, 1, buffer)?;
-    put_words(row.offset, row.length, &mut buffer[at..]).ok()?;
-    K::put(row.load, &mut buffer[at + SPAN_LEN..]).ok()?;
-    Some(end)
+    let (_, rest) = buffer.split_at_mut_checked(at)?;
+    let (offset, rest) = rest.split_first_chunk_mut::<4>()?;
+    let (length, image) = rest.split_first_chunk_mut::<4>()?;
+    // The image first: a rest that is too short for it is found before anything is written.
+    K::put(row.load, image).ok()?;
+    *offset = row.offset.to_be_bytes();
+    *length = row.length.to_be_bytes();
+    Some(at + SPAN_LEN + K::image_len() as usize)
 }
