@@ -4,11 +4,11 @@ use Rattle.tree.specs.declared.fork.Fork.{Fork}
 use Rattle.tree.specs.declared.node.Node.{Node}
 use Rattle.tree.specs.declared.side.Side.{Side}
 use Rattle.tree.specs.declared.side.Side.TheVariants.{Left, Right}
-use Rattle.tree.specs.Joins.{record_of, Putted, Frame}
+use Rattle.tree.specs.Joins.{record_of, Within, Putted, Frame}
 use Rattle.tree.specs.Shape.{Shape, node, over, tall, row, In, Distinct, Balanced, record_over, Stands, stored_height}
 use Rattle.tree.specs.Sides.{pick, opposite, fork_of, left_of, right_of, mirrored, between}
 use Rattle.tree.proofs.Slots.{in_left, in_right, in_mid, Parts, parts}
-use Rattle.tree.proofs.Trees.{opened, stands_within, height_stands, stands_other, putted_long, put_frame}
+use Rattle.tree.proofs.Trees.{opened, stands_within, stands_reaches, height_stands, stands_other, putted_long, put_frame}
 
 -- a relation that ties two on the side, and two on the other, ties those on the left
 pub pick_both : {A B : Type 0} (R : A → B → Type 0) (side : Side) (a a' : A) (b b' : B) → R a b → R a' b' → R (pick side a a') (pick side b b')
@@ -111,6 +111,9 @@ module _ {E Z : Type 0} (M : Z → List E → Type 0) where
   pub parted : (side : Side) (xs : List (Node E Z)) (k : ℕ) (n : Node E Z) (t : Shape E) → n ≡ get_or xs k n → Stands M xs (Some k) t → Parted xs (fork_of k side n) t
   parted Left xs k n t read s = let o = opened M xs k n t read s in record { within = stands_within M xs k t s; a = o.l; b = o.r; is = o.is; nears = o.lefts; fars = o.rights }
   parted Right xs k n t read s = let o = opened M xs k n t read s in record { within = stands_within M xs k t s; a = o.r; b = o.l; is = o.is; nears = o.rights; fars = o.lefts }
+
+  pub parted_within : {xs : List (Node E Z)} {f : Fork E} {t : Shape E} → Parted xs f t → Within xs f
+  parted_within {xs} {f} o = (o.within, stands_reaches M xs f.near o.a o.nears, stands_reaches M xs f.far o.b o.fars)
 
   -- what a write makes, and leaves
   pub record Put (xs ys : List (Node E Z)) (f : Fork E) (a b : Shape E) : Type 0 where

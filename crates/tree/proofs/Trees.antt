@@ -1,21 +1,15 @@
 -- Trees in a table of records: heights, what a change elsewhere leaves, and what a write makes.
-use Rattle.std.proofs.Common.{◌≡◌, ℕ, zero, suc, ◌<◌, ◌≢◌, List, [], ◌∷◌, ◌++◌, length, get_or, set, Some, None, Option, unwrap_or, sym, refl, ap, ◌∙◌, subst, inl, inr, arith, length-set, get_or-set_other}
+use Rattle.std.proofs.Common.{◌≡◌, ℕ, ◌+◌, ◌^◌, ◌<◌, ◌≢◌, List, [], ◌∷◌, ◌++◌, length, get_or, set, Some, None, Option, IfSome, unwrap_or, sym, refl, ap, ◌∙◌, subst, inl, inr, arith, length-set, get_or-set_other}
 use Rattle.std.proofs.lemmas.List.{get_or_default, map-append}
 use Rattle.std.proofs.lemmas.Option.{none-some, same_Some, slice_get_read}
 use Rattle.std.specs.Option.{option_map}
 use Rattle.tree.specs.declared.node.Node.{Node}
 use Rattle.tree.specs.Shape.{Shape, leaf, node, tall, row, ents, In, record_over, Linked, Stands, stored_height}
-use Rattle.tree.specs.Joins.{Frame}
+use Rattle.tree.specs.Joins.{Reaches, Frame}
 use Rattle.tree.proofs.Slots.{in_left, in_right, in_mid, in_parts}
 
 pub stored_is : {E Z : Type 0} (xs : List (Node E Z)) (k : ℕ) (n : Node E Z) → k < length xs → n ≡ get_or xs k n → stored_height xs (Some k) ≡ n.height
 stored_is {E} {Z} xs k n h e = ap (λ (o : Option (Node E Z)). unwrap_or (option_map (λ m. m.height) o) 0) (slice_get_read xs (length xs) k n refl h e)
-
--- where a height is stored there is a record
-pub height_within : {E Z : Type 0} (xs : List (Node E Z)) (k : ℕ) → 0 < stored_height xs (Some k) → k < length xs
-height_within [] k h = absurd (omega arith)
-height_within (x ∷ xs) zero h = omega arith
-height_within (x ∷ xs) (suc k) h = let below = height_within xs k h in omega arith
 
 pub ents_node : {E : Type 0} (ps : List (ℕ × E)) (p : ℕ × E) (qs : List (ℕ × E)) → ents (ps ++ (p ∷ qs)) ≡ ents ps ++ (p.1 ∷ ents qs)
 ents_node {E} ps p qs = map-append (λ (x : ℕ × E). x.1) ps (p ∷ qs)
@@ -23,6 +17,15 @@ ents_node {E} ps p qs = map-append (λ (x : ℕ × E). x.1) ps (p ∷ qs)
 -- a summary of a root and its subtrees, from one of their entries
 pub node_sums : {E Z : Type 0} (M : Z → List E → Type 0) (at : ℕ) (e : E) (l r : Shape E) (z : Z) → M z (ents (row l) ++ (e ∷ ents (row r))) → M z (ents (row (node l at e r)))
 node_sums {E} M at e l r z h = subst (λ (u : List E). M z u) (sym (ents_node (row l) (at, e) (row r))) h
+
+-- ---- links to slots of the table
+pub reaches_fits : {E Z : Type 0} (xs : List (Node E Z)) (k : Option ℕ) → length xs < 2 ^ 64 → Reaches xs k → IfSome k (λ s. s + 1 < 2 ^ 64)
+reaches_fits xs (Some s) small h = omega (arith, h)
+reaches_fits xs None small h = tt
+
+pub reaches_long : {E Z : Type 0} (xs ys : List (Node E Z)) (k : Option ℕ) → length ys ≡ length xs → Reaches xs k → Reaches ys k
+reaches_long xs ys (Some s) long h = omega (arith, long, h)
+reaches_long xs ys None long h = tt
 
 -- ---- one write
 pub putted_long : {E Z : Type 0} (xs ys : List (Node E Z)) (at : ℕ) (m : Node E Z) → ys ≡ set xs at m → length ys ≡ length xs
@@ -57,6 +60,10 @@ module _ {E Z : Type 0} (M : Z → List E → Type 0) where
   pub stands_within : (xs : List (Node E Z)) (k : ℕ) (t : Shape E) → Stands M xs (Some k) t → k < length xs
   stands_within xs k leaf s = absurd (none-some k (sym s.0))
   stands_within xs k (node l a e r) s = omega (arith, same_Some k a s.0, s.1.0.within)
+
+  pub stands_reaches : (xs : List (Node E Z)) (k : Option ℕ) (t : Shape E) → Stands M xs k t → Reaches xs k
+  stands_reaches xs (Some s) t h = stands_within xs s t h
+  stands_reaches xs None t h = tt
 
   -- at no slot there is an empty tree
   pub none_leaf : (xs : List (Node E Z)) (t : Shape E) → Stands M xs None t → t ≡ leaf

@@ -2,13 +2,13 @@
 use Rattle.std.proofs.Common.{◌≡◌, ℕ, ◌+◌, ◌^◌, ◌<◌, ◌≤◌, List, length, get_or, Some, Option, sym, refl, ap, ◌∙◌, subst, arith}
 use Rattle.tree.specs.declared.fork.Fork.{Fork}
 use Rattle.tree.specs.declared.node.Node.{Node}
-use Rattle.tree.specs.Joins.{Putted, Ready, Joins}
+use Rattle.tree.specs.Joins.{Within, Putted, Ready, Joins}
 use Rattle.tree.specs.Shape.{Shape, over, tall, row, In, Distinct, Stands, stored_height}
 use Rattle.tree.specs.Sides.{fork_of, mirrored, between}
 use Rattle.tree.proofs.Descends.{onto}
 use Rattle.tree.proofs.Heights.{low}
-use Rattle.tree.proofs.Mirrors.{row_over, between_assoc, parts_over, over_near, over_far, over_here, tall_over, avl_over, level, over_mirrored, Parted, parted, put_over}
-use Rattle.tree.proofs.Trees.{height_stands, stands_within, frame_then}
+use Rattle.tree.proofs.Mirrors.{row_over, between_assoc, parts_over, over_near, over_far, over_here, tall_over, avl_over, level, over_mirrored, Parted, parted, parted_within, put_over}
+use Rattle.tree.proofs.Trees.{height_stands, stands_within, stands_reaches, frame_then}
 
 -- the fork over another subtree on its other side
 abbrev pub beside : {E : Type 0} → Fork E → Option ℕ → Fork E
@@ -165,6 +165,16 @@ module _ {E Z : Type 0} {M : Z → List E → Type 0} {xs : List (Node E Z)} {f 
       near_ready : Ready M xs f (over (fork_of k f.side n) near_parted.a near_parted.b) b
       near_ready = subst (λ (x : Shape E). Ready M xs f x b) near_parted.is R
 
+      -- it stands in the table with its links, as does the root of its inner subtree
+      pub outer_within : {h : Fork E} → h ≡ fork_of k f.side n → Within xs h
+      outer_within he = subst (Within xs) (sym he) (parted_within M near_parted)
+
+      pub inner_within : {h : Fork E} → h ≡ fork_of k f.side n → {j : ℕ} → h.far ≡ Some j → (m : Node E Z) → m ≡ get_or xs j m → {i : Fork E} → i ≡ fork_of j f.side m → Within xs i
+      inner_within he {j} at_j m readm ie =
+          let o = near_parted in
+          let s : Stands M xs (Some j) o.b = (sym at_j ∙ ap (λ (g : Fork E). g.far) he ∙ o.fars.0, o.fars.1) in
+          subst (Within xs) (sym ie) (parted_within M (parted M f.side xs j m o.b readm s))
+
       pub rotated_once : {h : Fork E} → h ≡ fork_of k f.side n → stored_height xs h.far ≤ stored_height xs h.near → {ys zs : List (Node E Z)} → Putted M xs (onto f h.far) ys → Putted M ys (beside h (Some f.at)) zs → (t : Shape E) × Joins M xs (over f a b) zs k t
       rotated_once {h} he lean {ys} {zs} = subst (λ (g : Fork E). stored_height xs g.far ≤ stored_height xs g.near → (ys zs : List (Node E Z)) → Putted M xs (onto f g.far) ys → Putted M ys (beside g (Some f.at)) zs → (t : Shape E) × Joins M xs (over f a b) zs k t) (sym he) once lean ys zs
         where
@@ -198,6 +208,9 @@ module _ {E Z : Type 0} {M : Z → List E → Type 0} {xs : List (Node E Z)} {f 
 
   pub ready_heights : {a b : Shape E} → Ready M xs f a b → (stored_height xs f.near ≡ tall a) × (stored_height xs f.far ≡ tall b)
   ready_heights {a} {b} R = (height_stands M xs f.near a R.nears, height_stands M xs f.far b R.fars)
+
+  pub ready_within : {a b : Shape E} → Ready M xs f a b → Within xs f
+  ready_within {a} {b} R = (R.within, stands_reaches M xs f.near a R.nears, stands_reaches M xs f.far b R.fars)
 
 -- the same trees, seen from the other side
 module _ {E Z : Type 0} {M : Z → List E → Type 0} {xs : List (Node E Z)} (f : Fork E) {h : Fork E} (other : h ≡ mirrored f) where

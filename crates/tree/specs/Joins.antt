@@ -1,5 +1,5 @@
 -- What a write and a balancing ask and give.
-use Rattle.std.specs.Prelude.{◌≡◌, ℕ, ◌+◌, ◌^◌, ◌<◌, ◌≤◌, max, List, length, slice_index_or, slice_set, Some}
+use Rattle.std.specs.Prelude.{◌≡◌, ℕ, ◌+◌, ◌^◌, ◌<◌, ◌≤◌, max, List, length, slice_index_or, slice_set, Some, Option, IfSome}
 use Rattle.tree.specs.declared.fork.Fork.{Fork}
 use Rattle.tree.specs.declared.node.Node.{Node}
 use Rattle.tree.specs.Sides.{left_of, right_of}
@@ -8,6 +8,14 @@ use Rattle.tree.specs.Shape.{Shape, node, over, tall, row, ents, In, Distinct, B
 -- the record of a fork with this summary, over the heights that are stored
 abbrev pub record_of : {E Z : Type 0} → List (Node E Z) → Fork E → Z → Node E Z
 record_of xs f z = record { entry = f.entry; left = left_of f; right = right_of f; height = max (stored_height xs (left_of f)) (stored_height xs (right_of f)) + 1; summary = z }
+
+-- the slot of a link, where it has one, is one of the table's
+abbrev pub Reaches : {E Z : Type 0} → List (Node E Z) → Option ℕ → Type 0
+Reaches xs k = IfSome k (λ s. s < length xs)
+
+-- so is that of a fork, and those of its links
+abbrev pub Within : {E Z : Type 0} → List (Node E Z) → Fork E → Type 0
+Within xs f = (f.at < length xs) × Reaches xs f.near × Reaches xs f.far
 
 -- the table was xs, and is ys after the record of a fork was written at its slot
 pub record Putted {E Z : Type 0} (M : Z → List E → Type 0) (xs : List (Node E Z)) (f : Fork E) (ys : List (Node E Z)) : Type 0 where

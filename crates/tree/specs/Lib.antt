@@ -1,6 +1,7 @@
 pub mod Changes
 pub mod Heights
 pub mod Joins
+pub mod Links
 pub mod Lists
 pub mod Orders
 pub mod Shape

@@ -58,7 +58,7 @@ impl<E: Entry> Nodes<'_, E> {
         ensures { (t : Shape E) → Fit E.sums self.old.table.now (Some root) t → (u : Shape E) × Changed E.sums self.old.table.now t self.new.table.now result.root u × (row t ≡ (result.slot, result.entry) ∷ row u) }
     {
         let n = self.node(root);
-        match n.left {
+        match n.left.slot() {
             Some(left) => {
                 let first = self.pop_first(left);
                 let top = self.balance(Fork {
@@ -71,7 +71,7 @@ impl<E: Entry> Nodes<'_, E> {
                 }
             }
             None => Taken {
-                root: n.right,
+                root: n.right.slot(),
                 slot: root,
                 entry: n.entry,
             },
@@ -120,7 +120,7 @@ impl<E: Entry> Nodes<'_, E> {
                 }
             }
             None => Taken {
-                root: self.glue(n.left, n.right),
+                root: self.glue(n.left.slot(), n.right.slot()),
                 slot: at,
                 entry: n.entry,
             },

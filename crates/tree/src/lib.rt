@@ -6,6 +6,7 @@ mod balance;
 mod change;
 pub mod entry;
 mod fork;
+mod link;
 pub mod node;
 mod nodes;
 mod side;

@@ -4,6 +4,7 @@ ghost use Rattle.tree.specs.Sides.{fork_of};
 
 use crate::entry::Entry;
 use crate::fork::Fork;
+use crate::link::Link;
 use crate::side::Side;
 
 /// A record of a table: an entry, the links to its subtrees, and the height and the summary of the tree below it.
@@ -12,8 +13,8 @@ use crate::side::Side;
 #[derive(Clone, Copy)]
 pub struct Node<E, S> {
     pub(crate) entry: E,
-    pub(crate) left: Option<usize>,
-    pub(crate) right: Option<usize>,
+    pub(crate) left: Link,
+    pub(crate) right: Link,
     pub(crate) height: u8,
     pub(crate) summary: S,
 }
@@ -27,8 +28,8 @@ impl<E: Entry> Node<E, E::Summary> {
     {
         Node {
             entry,
-            left: None,
-            right: None,
+            left: Link::to(None),
+            right: Link::to(None),
             height: 1,
             summary: entry.summary(),
         }
@@ -40,12 +41,14 @@ impl<E: Copy, S: Copy> Node<E, S> {
     pub(crate) fn fork(self, at: usize, side: Side) -> Fork<E>
         ensures { result ≡ fork_of at side self }
     {
+        let left = self.left.slot();
+        let right = self.right.slot();
         Fork {
             at,
             entry: self.entry,
             side,
-            near: side.pick(self.left, self.right),
-            far: side.pick(self.right, self.left),
+            near: side.pick(left, right),
+            far: side.pick(right, left),
         }
     }
 }

@@ -1,10 +1,11 @@
 // The records of a tree in the table that was lent for it.
 ghost use Rattle.std.specs.Prelude.{◌≡◌, ◌<◌, length, slice_index_or};
 ghost use Rattle.tree.specs.Shape.{Shape, ents, row, stored, stored_height, Stands};
-ghost use Rattle.tree.specs.Joins.{Putted};
+ghost use Rattle.tree.specs.Joins.{Within, Putted};
 
 use crate::entry::Entry;
 use crate::fork::Fork;
+use crate::link::Link;
 use crate::node::Node;
 
 #[derive(Drop)]
@@ -46,7 +47,7 @@ impl<E: Entry> Nodes<'_, E> {
 
     // Writes the record of a fork. Heights stay far below 255, so the sum never stops there.
     pub(crate) fn put(&mut self, top: Fork<E>)
-        requires { top.at < length self.old.table.now }
+        requires { Within self.old.table.now top }
         ensures { Putted E.sums self.old.table.now top self.new.table.now }
     {
         let left = top.left();
@@ -56,8 +57,8 @@ impl<E: Entry> Nodes<'_, E> {
         let summary = E::join(self.summary(left), rest);
         self.table[top.at] = Node {
             entry: top.entry,
-            left,
-            right,
+            left: Link::to(left),
+            right: Link::to(right),
             height,
             summary,
         };

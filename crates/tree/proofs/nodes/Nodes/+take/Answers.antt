@@ -23,8 +23,8 @@ returns-in-Some-side_of g t c x p S here =
 
 pub glue-requires : goal.glue-requires
 glue-requires g t c =
-    take_pair g.met.E.Entry.total c.args.key c.requires.2 c.requires.3 c.node-n.result (opens c.requires.2.fit c.in-Some.is c.node-n.result c.node-n.ensures Left refl)
+    rw (c.slot.ensures, c.slot-in-None.ensures) (take_pair g.met.E.Entry.total c.args.key c.requires.2 c.requires.3 c.node-n.result (opens c.requires.2.fit c.in-Some.is c.node-n.result c.node-n.ensures Left refl))
 
 pub returns-in-None : goal.returns-in-None
 returns-in-None g t c x p S here =
-    take_here g.met.E.Entry.total c.args.key S here c.node-n.result (opens S.fit c.in-Some.is c.node-n.result c.node-n.ensures Left refl) (cc) c.glue.ensures
+    take_here g.met.E.Entry.total c.args.key S here c.node-n.result (opens S.fit c.in-Some.is c.node-n.result c.node-n.ensures Left refl) (cc) (rw (c.slot.ensures, c.slot-in-None.ensures) at c.glue.ensures)

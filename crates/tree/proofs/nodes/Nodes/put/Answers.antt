@@ -1,10 +1,23 @@
 use Rattle.std.proofs.Common.{◌≡◌, ◌+◌, max, [], ◌∷◌, ap, ◌∙◌, arith}
 use Rattle.std.proofs.lemmas.List.{length-set}
+use Rattle.tree.specs.Joins.{Reaches}
 use Rattle.tree.specs.Shape.{row, ents, stored_height}
 use Rattle.tree.specs.Sides.{left_of, right_of}
-use Rattle.tree.proofs.Mirrors.{put_heights}
-use Rattle.tree.proofs.Trees.{node_sums}
+use Rattle.tree.proofs.Mirrors.{pick_one, put_heights}
+use Rattle.tree.proofs.Trees.{node_sums, reaches_fits}
 use Rattle.tree.proofs.nodes.Nodes.put.Goals as goal
+
+pub to-requires : goal.to-requires
+to-requires g c =
+    let xs = c.args.self.now.table.now in
+    let top = c.args.top in
+    rw c.left-left.ensures (reaches_fits xs (left_of top) (omega arith) (pick_one (Reaches xs) top.side top.near top.far c.requires.1 c.requires.2))
+
+pub to-requires-2 : goal.to-requires-2
+to-requires-2 g c =
+    let xs = c.args.self.now.table.now in
+    let top = c.args.top in
+    rw c.right-right.ensures (reaches_fits xs (right_of top) (omega arith) (pick_one (Reaches xs) top.side top.far top.near c.requires.2 c.requires.1))
 
 pub returns : goal.returns
 returns g c = record {
