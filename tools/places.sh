@@ -26,7 +26,7 @@ show '5b allocator beside what it serves' 'heap: Global'
 show '5c slot, entry, side and subtrees, as parameters' 'at: usize|near: usize|far: usize'
 show '5d facts about a value in clauses' '(requires|ensures).*(Holds|Sound |Ready |told K)'
 show '6a a place beside a buffer, a pair of indices' '(at|start|line|next): usize|room: '
-show '6b links between records' '(left|right|root|slot): (usize|Option<usize>)'
+show '6b links between records' '(left|right|root|slot): (usize|Option<usize>|Link)([^:]|$)'
 show '7 matches on a kind, side or verdict' 'match (kind|self|side|verdict|word)\b'
 printf '%-62s %s\n' '8a answer files' "$(find crates -name Answers.antt -not -path '*/out/*' | grep -c .)"
 printf '%-62s %s\n' '8b lines of proofs' "$(find crates -path '*/proofs/*' -name '*.antt' -not -path '*/out/*' | xargs cat | grep -c '')"

@@ -1,5 +1,5 @@
 -- Trees in a table of records: heights, what a change elsewhere leaves, and what a write makes.
-use Rattle.std.proofs.Common.{◌≡◌, ℕ, ◌+◌, ◌^◌, ◌<◌, ◌≢◌, List, [], ◌∷◌, ◌++◌, length, get_or, set, Some, None, Option, IfSome, unwrap_or, sym, refl, ap, ◌∙◌, subst, inl, inr, arith, length-set, get_or-set_other}
+use Rattle.std.proofs.Common.{◌≡◌, ℕ, zero, suc, ◌+◌, ◌^◌, ◌<◌, ◌≢◌, List, [], ◌∷◌, ◌++◌, length, get_or, set, Some, None, Option, IfSome, unwrap_or, sym, refl, ap, ◌∙◌, subst, inl, inr, arith, length-set, get_or-set_other}
 use Rattle.std.proofs.lemmas.List.{get_or_default, map-append}
 use Rattle.std.proofs.lemmas.Option.{none-some, same_Some, slice_get_read}
 use Rattle.std.specs.Option.{option_map}
@@ -10,6 +10,12 @@ use Rattle.tree.proofs.Slots.{in_left, in_right, in_mid, in_parts}
 
 pub stored_is : {E Z : Type 0} (xs : List (Node E Z)) (k : ℕ) (n : Node E Z) → k < length xs → n ≡ get_or xs k n → stored_height xs (Some k) ≡ n.height
 stored_is {E} {Z} xs k n h e = ap (λ (o : Option (Node E Z)). unwrap_or (option_map (λ m. m.height) o) 0) (slice_get_read xs (length xs) k n refl h e)
+
+-- where a height is stored there is a record
+pub height_within : {E Z : Type 0} (xs : List (Node E Z)) (k : ℕ) → 0 < stored_height xs (Some k) → k < length xs
+height_within [] k h = absurd (omega arith)
+height_within (x ∷ xs) zero h = omega arith
+height_within (x ∷ xs) (suc k) h = let below = height_within xs k h in omega arith
 
 pub ents_node : {E : Type 0} (ps : List (ℕ × E)) (p : ℕ × E) (qs : List (ℕ × E)) → ents (ps ++ (p ∷ qs)) ≡ ents ps ++ (p.1 ∷ ents qs)
 ents_node {E} ps p qs = map-append (λ (x : ℕ × E). x.1) ps (p ∷ qs)
