@@ -64,6 +64,7 @@ pub fn put_row<K: Kind>(row: Row<K::Load>, at: usize, buffer: &mut [u8]) -> Opti
     let (length, image) = rest.split_first_chunk_mut::<4>()?;
     // The image first: a rest that is too short for it is found before anything is written.
     K::put(row.load, image).ok()?;
+    // Each number by itself: both by `put_words` took two fifths longer.
     *offset = row.offset.to_be_bytes();
     *length = row.length.to_be_bytes();
     Some(at + SPAN_LEN + K::image_len() as usize)

@@ -133,7 +133,7 @@ module _ {X : Type 0} (f : X → List ℕ) where
       let above = shuffled_le ys xs (IsPermutation-sym xs ys s) in
       omega arith
 
-  -- without equal neighbours, a sorted list has as many items as differ
+  -- a sorted list without equal neighbours has as many items as differ
   pub kept_differ : (sorted kept : List X) → IsSorted (on f (slice_cmp nat_cmp)) sorted → IsFiltered (DiffersFromLast (on f bytes_eq)) [] sorted kept
       → length kept ≡ distinct_of (map f sorted)
   kept_differ sorted kept up filtered =
@@ -144,7 +144,7 @@ module _ {X : Type 0} (f : X → List ℕ) where
       let is = ap length (dedup_is (on f bytes_eq) sorted kept filtered) in
       omega arith
 
-  -- sorted, and without equal neighbours, a list has as many items as differ
+  -- the same of the items in any order, sorted and then without equal neighbours
   pub count_kept : (xs sorted kept : List X) → IsPermutation xs sorted → IsSorted (on f (slice_cmp nat_cmp)) sorted → IsFiltered (DiffersFromLast (on f bytes_eq)) [] sorted kept
       → length kept ≡ distinct_of (map f xs)
   count_kept xs sorted kept moved up filtered = kept_differ sorted kept up filtered ∙ distinct_shuffled xs sorted moved

@@ -44,6 +44,7 @@ pub trait Entry: Copy {
     fn join(a: Self::Summary, b: Self::Summary) -> Self::Summary
         ensures { (xs ys : List Self) → sums a xs → sums b ys → sums result (xs ++ ys) };
 
+    // The order is total.
     ghost total: { IsTotalOrder compare };
 
     // Keys that compare as equal are one.
