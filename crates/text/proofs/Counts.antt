@@ -143,8 +143,3 @@ module _ {X : Type 0} (f : X → List ℕ) where
       let above = within_le sorted stays (like_kept sorted) in
       let is = ap length (dedup_is (on f bytes_eq) sorted kept filtered) in
       omega arith
-
-  -- the same of the items in any order, sorted and then without equal neighbours
-  pub count_kept : (xs sorted kept : List X) → IsPermutation xs sorted → IsSorted (on f (slice_cmp nat_cmp)) sorted → IsFiltered (DiffersFromLast (on f bytes_eq)) [] sorted kept
-      → length kept ≡ distinct_of (map f xs)
-  count_kept xs sorted kept moved up filtered = kept_differ sorted kept up filtered ∙ distinct_shuffled xs sorted moved

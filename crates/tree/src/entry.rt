@@ -44,10 +44,9 @@ pub trait Entry: Copy {
     fn join(a: Self::Summary, b: Self::Summary) -> Self::Summary
         ensures { (xs ys : List Self) → sums a xs → sums b ys → sums result (xs ++ ys) };
 
-    // The order is total.
+    // A total order, in which keys that compare as equal are one.
     ghost total: { IsTotalOrder compare };
 
-    // Keys that compare as equal are one.
     ghost apart: { (a b : Self.Key) → compare a b ≡ Equal → a ≡ b };
 }
 
